@@ -1,0 +1,5 @@
+pub mod Class
+pub mod Table
+pub mod Limits
+pub mod Mean
+pub mod Answers

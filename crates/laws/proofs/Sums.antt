@@ -1,0 +1,47 @@
+-- Laws of a sum over an index. Assumes nothing.
+use mathlib.Core.Path.{_≡_, refl}
+use Prim.Native.Nat.{ℕ, zero, suc, _+_, _*_, _≤_, _<_}
+use native.Mathlib.Numerals.{add-one}
+use native.Mathlib.Omega.{arith}
+use Rattle.laws.specs.Sum.{sumTo}
+
+-- one term more
+pub sum-more : (f : ℕ → ℕ) (n : ℕ) → sumTo f (n + 1) ≡ sumTo f n + f n
+unfolding sumTo
+sum-more f n = rw add-one
+
+-- terms that are each at most those of another sum
+pub sum-le : (f g : ℕ → ℕ) (n : ℕ) → ((i : ℕ) → i < n → f i ≤ g i) → sumTo f n ≤ sumTo g n
+unfolding sumTo
+sum-le f g zero h = omega arith
+sum-le f g (suc n) h = omega (arith, sum-le f g n (λ i l. h i (omega arith)), h n (omega arith))
+
+-- terms that are the same
+pub sum-same : (f g : ℕ → ℕ) (n : ℕ) → ((i : ℕ) → i < n → f i ≡ g i) → sumTo f n ≡ sumTo g n
+unfolding sumTo
+sum-same f g zero h = refl
+sum-same f g (suc n) h = omega (arith, sum-same f g n (λ i l. h i (omega arith)), h n (omega arith))
+
+-- a sum of sums
+pub sum-add : (f g : ℕ → ℕ) (n : ℕ) → sumTo (λ i. f i + g i) n ≡ sumTo f n + sumTo g n
+unfolding sumTo
+sum-add f g zero = refl
+sum-add f g (suc n) = omega (arith, sum-add f g n)
+
+-- a factor of every term
+pub sum-times : (k : ℕ) (f : ℕ → ℕ) (n : ℕ) → sumTo (λ i. k * f i) n ≡ k * sumTo f n
+unfolding sumTo
+sum-times k f zero = omega arith
+sum-times k f (suc n) = omega (arith, sum-times k f n)
+
+-- n terms, each at most m
+pub sum-most : (f : ℕ → ℕ) (m n : ℕ) → ((i : ℕ) → i < n → f i ≤ m) → sumTo f n ≤ n * m
+unfolding sumTo
+sum-most f m zero h = omega arith
+sum-most f m (suc n) h = omega (arith, sum-most f m n (λ i l. h i (omega arith)), h n (omega arith))
+
+-- n terms, each at least m
+pub sum-least : (f : ℕ → ℕ) (m n : ℕ) → ((i : ℕ) → i < n → m ≤ f i) → n * m ≤ sumTo f n
+unfolding sumTo
+sum-least f m zero h = omega arith
+sum-least f m (suc n) h = omega (arith, sum-least f m n (λ i l. h i (omega arith)), h n (omega arith))

@@ -1,0 +1,5 @@
+pub mod Pick
+pub mod Scan
+pub mod Sum
+pub mod Within
+pub mod Flat

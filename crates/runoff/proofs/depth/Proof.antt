@@ -1,0 +1,55 @@
+-- `runoff::depth` meets its contract: no product outgrows its type. Assumes nothing.
+use mathlib.Core.Path.{_≡_, sym}
+use Prim.Native.Nat.{ℕ, _+_, _*_, _≤_}
+use native.Mathlib.Nat.{mul-le-mul}
+use native.Mathlib.Omega.{arith}
+use borrow.Author.Needs.{needs}
+use Rattle.laws.proofs.Num.{mul-fits}
+use Rattle.runoff.specs.RunoffDepth.{N, M}
+use Rattle.runoff.proofs.Rising.{depth-some, depth-none, M-some}
+use Rattle.runoff.proofs.depth.Statement.{statement}
+use Rattle.runoff.proofs.depth.Tie as tie
+
+-- C p within the limits
+product : (s : tie.Start) → s .args .curve * s .args .rain ≤ 2940000
+product s = mul-le-mul (s .pre .0 .most) (s .pre .1)
+
+-- N and M within the limits
+N-small : (s : tie.Start) → N (s .args .curve) (s .args .rain) ≤ 2940000
+N-small s = omega (arith, product s, s .pre .0 .most)
+
+M-small : (s : tie.Start) → M (s .args .curve) (s .args .rain) ≤ 3740000
+M-small s = omega (arith, product s)
+
+mul-product : tie.Need-mul-product
+mul-product c = mul-fits 98 30000 (c .pre .0 .most) (c .pre .1) tt
+
+add-wetted : tie.Need-add-wetted
+add-wetted c = omega (arith, product c)
+
+returns : tie.Need-returns
+returns c = sym (depth-none (c .before .args .curve) (c .before .args .rain) (omega arith))
+
+add-m : tie.Need-add-m
+add-m c = omega (arith, product (c .before))
+
+mul-result : tie.Need-mul-result
+mul-result c = mul-fits 2940000 2940000 (N-small (c .before)) (N-small (c .before)) tt
+
+mul-result-2 : tie.Need-mul-result-2
+mul-result-2 c = omega (arith, mul-le-mul (N-small (c .before)) (N-small (c .before)))
+
+mul-result-3 : tie.Need-mul-result-3
+mul-result-3 c = mul-fits 98 3740000 (c .before .pre .0 .most) (M-small (c .before)) tt
+
+div-result : tie.Need-div-result
+div-result c = omega (arith, M-some (c .before .args .curve) (c .before .pre .0) (c .before .args .rain))
+
+returns-2 : tie.Need-returns-2
+returns-2 c = sym (depth-some (c .before .args .curve) (c .before .args .rain) (omega arith))
+
+pub depth-spec : {M : Type 1} → statement M
+depth-spec =
+    tie.close
+    (tie.spec mul-product (λ c. search needs) add-wetted returns (λ c. search needs) add-m (λ c. search needs) (λ c. search needs)
+    mul-result mul-result-2 mul-result-3 div-result returns-2)

@@ -1,0 +1,4 @@
+pub mod Bisect
+pub mod Times
+pub mod Limits
+pub mod Answers

@@ -1,0 +1,13 @@
+-- Every line holds: one statement, by computation. Assumes nothing.
+use mathlib.Core.Path.{_≡_, refl}
+use mathlib.Core.List.{List, map}
+use Prim.Native.Nat.{ℕ}
+use Rattle.laws.specs.Sum.{sumTo}
+use Rattle.curve.specs.CurveNumbers.{coverTable, coverNumber, totalArea, weighted, nearest, composite}
+use Rattle.runoff.specs.RunoffDepth.{depth}
+use Rattle.travel.specs.TravelTime.{largest, shallow, segmentTime}
+use Rattle.worked.specs.Lines.{Line, lines}
+
+pub figures-to-check : map (λ (l : Line). l .given) lines ≡ map (λ (l : Line). l .figure) lines
+unfolding sumTo coverTable coverNumber totalArea weighted nearest composite depth largest shallow segmentTime
+figures-to-check = refl

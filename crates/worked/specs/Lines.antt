@@ -1,0 +1,30 @@
+-- The lines marked (*) under 'Figures to check by' in document 01: what a definition gives beside the figure.
+use mathlib.Core.List.{List, [], _∷_}
+use Prim.Native.Nat.{ℕ}
+use Rattle.curve.specs.CurveNumbers.{composite}
+use Rattle.runoff.specs.RunoffDepth.{depth}
+use Rattle.travel.specs.TravelTime.{segmentTime}
+
+pub record Line : Type 0 where
+  pub given : ℕ
+  pub figure : ℕ
+
+abbrev pub _is_ : ℕ → ℕ → Line
+given is figure = record { given = given; figure = figure }
+
+infix 20 _is_
+-- two patches of one area, on cover code 3 and soil groups B (61) and C (74)
+abbrev pub equalAreas : List ℕ
+equalAreas = 3 ∷ 2 ∷ 100 ∷ 3 ∷ 3 ∷ 100 ∷ []
+
+abbrev pub lines : List Line
+lines =
+    (depth 80 3000 is 1250000)
+    ∷ (depth 80 500 is 0)
+    ∷ (depth 80 520 is 158)
+    ∷ (depth 98 3000 is 2768268)
+    ∷ (depth 40 8000 is 1250000)
+    ∷ (composite equalAreas is 68)
+    ∷ (segmentTime 1 1000 100 is 619)
+    ∷ (segmentTime 2 1000 100 is 491)
+    ∷ []
