@@ -60,6 +60,17 @@ module _ (good : ℕ → Bool) where
       go true t q more = more (omega arith)
       go false t q more = t
 
+  -- each place before the one found is good
+  pub scan-before : (n i : ℕ) (k : ℕ) → i ≤ k → k < scan good n i → good k ≡ true
+  unfolding scan
+  scan-before zero i k lo hi = absurd (omega arith)
+  scan-before (suc n) i k lo hi = go (good i) refl hi (scan-before n (i + 1))
+    where
+      go : (b : Bool) → good i ≡ b → k < pick b (scan good n (i + 1)) i
+          → ((k : ℕ) → i + 1 ≤ k → k < scan good n (i + 1) → good k ≡ true) → good k ≡ true
+      go true t q more = ⊎-elim (λ w. subst (λ (z : ℕ). good z ≡ true) w t) (λ w. more k (omega arith) q) (eq-or-lt-of-le lo)
+      go false t q more = absurd (omega arith)
+
   -- where each is good, the scan runs to the end
   pub scan-whole : (n : ℕ) → ((i : ℕ) → i < n → good i ≡ true) → scan good n 0 ≡ n
   scan-whole n each =

@@ -1,6 +1,8 @@
 -- Laws of a sum over an index. Assumes nothing.
-use mathlib.Core.Path.{_≡_, refl}
+use mathlib.Core.Path.{_≡_, refl, ap}
+use mathlib.Core.Logic.{⊎-elim}
 use Prim.Native.Nat.{ℕ, zero, suc, _+_, _*_, _≤_, _<_}
+use native.Mathlib.Nat.{eq-or-lt-of-le, le-of-suc-le-suc}
 use native.Mathlib.Numerals.{add-one}
 use native.Mathlib.Omega.{arith}
 use Rattle.laws.specs.Sum.{sumTo}
@@ -45,3 +47,17 @@ pub sum-least : (f : ℕ → ℕ) (m n : ℕ) → ((i : ℕ) → i < n → m ≤
 unfolding sumTo
 sum-least f m zero h = omega arith
 sum-least f m (suc n) h = omega (arith, sum-least f m n (λ i l. h i (omega arith)), h n (omega arith))
+
+-- a sum is no less than any of its terms
+pub sum-term : (f : ℕ → ℕ) (i n : ℕ) → i < n → f i ≤ sumTo f n
+unfolding sumTo
+sum-term f i zero l = absurd (omega arith)
+sum-term f i (suc n) l =
+    ⊎-elim (λ e. rw e (omega arith)) (λ k. omega (arith, sum-term f i n k)) (eq-or-lt-of-le (le-of-suc-le-suc l))
+
+-- terms that are 0 from a place on leave the sum as it is there
+pub sum-zeros : (f : ℕ → ℕ) (m n : ℕ) → m ≤ n → ((i : ℕ) → m ≤ i → i < n → f i ≡ 0) → sumTo f n ≡ sumTo f m
+unfolding sumTo
+sum-zeros f m zero l z = let e : m ≡ 0 = omega arith in rw e
+sum-zeros f m (suc n) l z =
+    ⊎-elim (λ e. rw e) (λ k. omega (arith, z n (omega arith) (omega arith), sum-zeros f m n (le-of-suc-le-suc k) (λ i a b. z i a (omega arith)))) (eq-or-lt-of-le l)

@@ -3,3 +3,4 @@ pub mod Scan
 pub mod Sum
 pub mod Within
 pub mod Flat
+pub mod Filled

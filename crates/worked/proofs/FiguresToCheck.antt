@@ -2,12 +2,14 @@
 use mathlib.Core.Path.{_≡_, refl}
 use mathlib.Core.List.{List, map}
 use Prim.Native.Nat.{ℕ}
+use Rattle.laws.specs.Scan.{scan}
 use Rattle.laws.specs.Sum.{sumTo}
 use Rattle.curve.specs.CurveNumbers.{coverTable, coverNumber, totalArea, weighted, nearest, composite}
 use Rattle.runoff.specs.RunoffDepth.{depth}
 use Rattle.travel.specs.TravelTime.{largest, shallow, segmentTime}
+use Rattle.hydrograph.specs.InflowRows.{shape, time, ratio, lineAt, onLine, weight, volumeOf}
 use Rattle.worked.specs.Lines.{Line, lines}
 
 pub figures-to-check : map (λ (l : Line). l .given) lines ≡ map (λ (l : Line). l .figure) lines
-unfolding sumTo coverTable coverNumber totalArea weighted nearest composite depth largest shallow segmentTime
+unfolding sumTo coverTable coverNumber totalArea weighted nearest composite depth largest shallow segmentTime scan time ratio lineAt onLine weight volumeOf
 figures-to-check = refl

@@ -4,6 +4,7 @@ use Prim.Native.Nat.{ℕ}
 use Rattle.curve.specs.CurveNumbers.{composite}
 use Rattle.runoff.specs.RunoffDepth.{depth}
 use Rattle.travel.specs.TravelTime.{segmentTime}
+use Rattle.hydrograph.specs.InflowRows.{weight, volumeOf}
 
 pub record Line : Type 0 where
   pub given : ℕ
@@ -27,4 +28,7 @@ lines =
     ∷ (composite equalAreas is 68)
     ∷ (segmentTime 1 1000 100 is 619)
     ∷ (segmentTime 2 1000 100 is 491)
+    ∷ (weight 216 60 1 is 170000)
+    ∷ (weight 216 60 18 is 0)
+    ∷ (volumeOf 100 1000000 is 3630000)
     ∷ []

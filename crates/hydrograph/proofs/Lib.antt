@@ -1,0 +1,6 @@
+pub mod Lines
+pub mod Weights
+pub mod Released
+pub mod Parts
+pub mod Timing
+pub mod Answers

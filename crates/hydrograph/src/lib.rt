@@ -1,0 +1,267 @@
+// Inflow rows: from a subarea's numbers and the rain to its parts of the rows' inflow volumes.
+// Units: time to peak and step in seconds, area in hundredths of an acre, rain in thousandths of an inch,
+// depths in millionths of an inch, volumes in thousandths of a cubic foot.
+ghost use mathlib.Core.Path.{_≡_};
+ghost use Prim.Native.Nat.{_+_, _-_, _*_, _≤_, _<_, min};
+ghost use lib.ListN.{length};
+ghost use Rattle.laws.specs.Sum.{sumTo};
+ghost use Rattle.laws.specs.Filled.{Filled};
+ghost use Rattle.curve.specs.CurveNumbers.{CurveOk};
+ghost use Rattle.travel.specs.TravelTime.{TimeOk};
+ghost use Rattle.hydrograph.specs.InflowRows.{time, ratio, lineAt, onLine, weight, weightAt, weights, totalWeight, product, runoffAt, volumeOf, part, plus, LineOk, TimingOk, RainOk, Below, RoomOk, TimesOk, timingGood, firstMistimed, mostStep, mostArea, mostDepth};
+
+// The shape: times in tenths of the time to peak, ratios in thousandths of the peak.
+const TIMES: [u64; 33] = [
+    0,
+    1,
+    2,
+    3,
+    4,
+    5,
+    6,
+    7,
+    8,
+    9,
+    10,
+    11,
+    12,
+    13,
+    14,
+    15,
+    16,
+    17,
+    18,
+    19,
+    20,
+    22,
+    24,
+    26,
+    28,
+    30,
+    32,
+    34,
+    36,
+    38,
+    40,
+    45,
+    50,
+];
+
+const RATIOS: [u64; 33] = [
+    0,
+    30,
+    100,
+    190,
+    310,
+    470,
+    660,
+    820,
+    930,
+    990,
+    1000,
+    990,
+    930,
+    860,
+    780,
+    680,
+    560,
+    460,
+    390,
+    330,
+    280,
+    207,
+    147,
+    107,
+    77,
+    55,
+    40,
+    29,
+    21,
+    15,
+    11,
+    5,
+    0,
+];
+
+fn time_at(i: usize) -> u64
+    requires { ⌜ i < 33 ⌝ }
+    ensures { λ r. ⌜ r ≡ time i ⌝ }
+{
+    TIMES[i]
+}
+
+fn ratio_at(i: usize) -> u64
+    requires { ⌜ i < 33 ⌝ }
+    ensures { λ r. ⌜ r ≡ ratio i ⌝ }
+{
+    RATIOS[i]
+}
+
+// The line between knots on which a time, in tenths of a second, lies.
+fn line_at(peak: u64, t: u64) -> usize
+    requires { ⌜ peak ≤ 400000 ⌝ }
+    ensures { λ r. ⌜ r ≡ lineAt peak t ⌝ }
+{
+    let mut i = 0;
+    while i < 32 {
+        if t <= time_at(i + 1) * peak {
+            return i;
+        }
+        i += 1;
+    }
+    i
+}
+
+// 1000 times the straight line through (a, y0) and (b, y1) at t, with no sign to mind.
+fn on_line(t: u64, a: u64, b: u64, y0: u64, y1: u64) -> u64
+    requires { ⌜ LineOk t a b y0 y1 ⌝ }
+    ensures { λ r. ⌜ r ≡ onLine t a b y0 y1 ⌝ }
+{
+    1000 * (y0 * (b - t) + y1 * (t - a)) / (b - a)
+}
+
+// Weight j, at j steps.
+pub fn weight(peak: u64, step: u64, j: u64) -> u64
+    requires { ⌜ TimingOk step peak × (j * step ≤ 5 * peak) ⌝ }
+    ensures { λ r. ⌜ r ≡ weight peak step j ⌝ }
+{
+    let t = 10 * (j * step);
+    let i = line_at(peak, t);
+    on_line(
+        t,
+        time_at(i) * peak,
+        time_at(i + 1) * peak,
+        ratio_at(i),
+        ratio_at(i + 1),
+    )
+}
+
+fn wide(x: u32) -> u64
+    ensures { λ r. ⌜ r ≡ x ⌝ }
+{
+    x as u64
+}
+
+// Puts the weights into a list, the first at place 0, and gives their sum.
+fn fill_weights(peak: u64, step: u64, list: &mut [u32; 512]) -> u64
+    requires { ⌜ TimingOk step peak × (length (now list) ≡ 512) ⌝ }
+    ensures { λ r. ⌜ (r ≡ totalWeight peak step) × Filled (weightAt peak step) (weights peak step) (now (list .exit)) ⌝ }
+{
+    let n = 5 * peak / step;
+    let mut total = 0;
+    let mut j = 0;
+    while j < n {
+        let own = weight(peak, step, j + 1);
+        let at = j as usize;
+        list[at] = own as u32;
+        total += own;
+        j += 1;
+    }
+    total
+}
+
+// Q at t, the runoff of rain entry t, from Q at t - 1, which stays once the rain has ended.
+fn next_depth(curve: u64, rain: &[u64], t: usize, last: u64) -> u64
+    requires { ⌜ CurveOk curve × (RainOk (now rain) × (last ≡ runoffAt curve (now rain) (t - 1))) ⌝ }
+    ensures { λ r. ⌜ r ≡ runoffAt curve (now (rain .entry)) t ⌝ }
+{
+    if t < rain.len() {
+        runoff::depth(curve, rain[t])
+    } else {
+        last
+    }
+}
+
+// Puts Q at 0 to Q at the last row into a list.
+fn fill_depths(curve: u64, rain: &[u64], rows: usize, list: &mut [u32; 2001])
+    requires { ⌜ CurveOk curve × (RainOk (now rain) × ((rows ≤ 2000) × (length (now list) ≡ 2001))) ⌝ }
+    ensures { λ _. ⌜ Filled (runoffAt curve (now (rain .entry))) (rows + 1) (now (list .exit)) ⌝ }
+{
+    let mut last = 0;
+    let mut t = 0;
+    while t <= rows {
+        last = next_depth(curve, rain, t, last);
+        list[t] = last as u32;
+        t += 1;
+    }
+}
+
+// The first n weights, each times the depth as many places before k, summed.
+fn dot(weights: &[u32; 512], depths: &[u32; 2001], k: usize, n: usize) -> u64
+    requires { ⌜ (n ≤ 512) × ((n ≤ k) × ((k ≤ 2000) × (Below (now weights) n 1000000 × Below (now depths) (k + 1) 30000000))) ⌝ }
+    ensures { λ r. ⌜ r ≡ sumTo (product (now (weights .entry)) (now (depths .entry)) k) n ⌝ }
+{
+    let mut sum = 0;
+    let mut i = 0;
+    while i < n {
+        sum += wide(weights[i]) * wide(depths[k - i]);
+        i += 1;
+    }
+    sum
+}
+
+// The volume of a depth on an area.
+pub fn volume(area: u64, depth: u64) -> u64
+    requires { ⌜ (area ≤ mostArea) × (depth ≤ mostDepth) ⌝ }
+    ensures { λ r. ⌜ r ≡ volumeOf area depth ⌝ }
+{
+    363 * area * depth / 10000
+}
+
+fn least(a: usize, b: usize) -> usize
+    ensures { λ r. ⌜ r ≡ min a b ⌝ }
+{
+    if a < b { a } else { b }
+}
+
+// Adds a subarea's part to each row: its weights and the depths are worked out once, then one sum of products a row.
+pub fn add_parts(curve: u64, area: u64, peak: u64, step: u64, rain: &[u64], rows: &mut [u64])
+    requires { ⌜ CurveOk curve × ((area ≤ mostArea) × (TimingOk step peak × (RainOk (now rain) × RoomOk (now rows)))) ⌝ }
+    ensures { λ _. ⌜ now (rows .exit) ≡ plus (part curve area peak step (now (rain .entry))) 1 (now (rows .entry)) ⌝ }
+{
+    let mut weights = [0u32; 512];
+    let mut depths = [0u32; 2001];
+    let total = fill_weights(peak, step, &mut weights);
+    fill_depths(curve, rain, rows.len(), &mut depths);
+    let count = (5 * peak / step) as usize;
+    let mut before = 0;
+    let mut i = 0;
+    while i < rows.len() {
+        let sum = dot(&weights, &depths, i + 1, least(count, i + 1));
+        let through = volume(area, sum / total);
+        rows[i] += through - before;
+        before = through;
+        i += 1;
+    }
+}
+
+// Does a Tc pass refusal 9, 10 or 11 at a step? (11 for any other number.)
+pub fn timing_good(number: u64, step: u64, concentration: u64) -> bool
+    requires { ⌜ (step ≤ mostStep) × TimeOk concentration ⌝ }
+    ensures { λ r. ⌜ r ≡ timingGood number step concentration ⌝ }
+{
+    let peak = travel::time_to_peak(step, concentration);
+    if number == 9 {
+        return concentration <= 36000;
+    }
+    if number == 10 {
+        return step <= peak;
+    }
+    5 * peak <= 512 * step
+}
+
+// The first subarea, from 0, whose Tc fails refusal 9, 10 or 11, or the number of subareas.
+pub fn first_mistimed(number: u64, step: u64, times: &[u64]) -> usize
+    requires { ⌜ (step ≤ mostStep) × TimesOk (now times) ⌝ }
+    ensures { λ r. ⌜ r ≡ firstMistimed number step (now (times .entry)) ⌝ }
+{
+    let n = times.len();
+    let mut i = 0;
+    while i < n {
+        if !timing_good(number, step, times[i]) {
+            return i;
+        }
+        i += 1;
+    }
+    i
+}
