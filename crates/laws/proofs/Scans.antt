@@ -7,6 +7,7 @@ use native.Mathlib.Nat.{eq-or-lt-of-le, sub-zero}
 use native.Mathlib.Omega.{arith}
 use Rattle.laws.specs.Pick.{pick}
 use Rattle.laws.specs.Scan.{scan}
+use Rattle.laws.proofs.Num.{below-or-not}
 use Rattle.laws.proofs.Tests.{by-test}
 
 one-left : (n i : ℕ) → i < n → n - i ≡ suc (n - (i + 1))
@@ -75,6 +76,14 @@ module _ (good : ℕ → Bool) where
   pub scan-whole : (n : ℕ) → ((i : ℕ) → i < n → good i ≡ true) → scan good n 0 ≡ n
   scan-whole n each =
       ⊎-elim (λ w. omega arith) (λ w. absurd (true≢false (sym (each (scan good n 0) (omega arith)) ∙ scan-bad n 0 w))) (eq-or-lt-of-le (scan-most n 0))
+
+  -- a place with only good ones before it, and bad itself unless it is the end, is the answer
+  pub scan-is : (n r : ℕ) → r ≤ n → ((k : ℕ) → k < r → good k ≡ true) → (r < n → good r ≡ false) → scan good n 0 ≡ r
+  scan-is n r l before here =
+      ⊎-elim
+      (λ (w : scan good n 0 < r). absurd (true≢false (sym (before (scan good n 0) w) ∙ scan-bad n 0 (omega (arith, w)))))
+      (λ (w : r ≤ scan good n 0). ⊎-elim (λ (e : r ≡ scan good n 0). sym e) (λ (m : r < scan good n 0). absurd (true≢false (sym (scan-before n 0 r (omega arith) m) ∙ here (omega (arith, scan-most n 0))))) (eq-or-lt-of-le w))
+      (below-or-not (scan good n 0) r)
 
 -- The invariant of a loop that scans, at place i: what is left to scan gives what the whole scan gives. Each law below answers one of its needs
 pub record Scanning (good : ℕ → Bool) (n i : ℕ) : Type 0 where

@@ -8,8 +8,10 @@ use Rattle.curve.specs.CurveNumbers.{coverTable, coverNumber, totalArea, weight
 use Rattle.runoff.specs.RunoffDepth.{depth}
 use Rattle.travel.specs.TravelTime.{largest, shallow, segmentTime}
 use Rattle.hydrograph.specs.InflowRows.{shape, time, ratio, lineAt, onLine, weight, volumeOf}
+use Rattle.pond.specs.PondRows.{sumAt, lower, between, dischargeAt, arrived, settled}
+use Rattle.rows.specs.Routing.{states, total}
 use Rattle.worked.specs.Lines.{Line, lines}
 
 pub figures-to-check : map (λ (l : Line). l .given) lines ≡ map (λ (l : Line). l .figure) lines
-unfolding sumTo coverTable coverNumber totalArea weighted nearest composite depth largest shallow segmentTime scan time ratio lineAt onLine weight volumeOf
+unfolding sumTo coverTable coverNumber totalArea weighted nearest composite depth largest shallow segmentTime scan time ratio lineAt onLine weight volumeOf sumAt lower between dischargeAt arrived settled states total
 figures-to-check = refl

@@ -1,10 +1,14 @@
 -- The lines marked (*) under 'Figures to check by' in document 01: what a definition gives beside the figure.
 use mathlib.Core.List.{List, [], _∷_}
-use Prim.Native.Nat.{ℕ}
+use Prim.Native.Nat.{ℕ, _+_}
+use Rattle.laws.specs.Sum.{sumTo}
 use Rattle.curve.specs.CurveNumbers.{composite}
 use Rattle.runoff.specs.RunoffDepth.{depth}
 use Rattle.travel.specs.TravelTime.{segmentTime}
 use Rattle.hydrograph.specs.InflowRows.{weight, volumeOf}
+use Rattle.pond.specs.PondRows.{empty}
+use Rattle.rows.specs.Routing.{outflows, storages, total}
+use Rattle.rows.specs.Standing.{at, releaseAt}
 
 pub record Line : Type 0 where
   pub given : ℕ
@@ -17,6 +21,19 @@ infix 20 _is_
 -- two patches of one area, on cover code 3 and soil groups B (61) and C (74)
 abbrev pub equalAreas : List ℕ
 equalAreas = 3 ∷ 2 ∷ 100 ∷ 3 ∷ 3 ∷ 100 ∷ []
+
+-- pond (0, 0, 0), (1000, 9000, 100) at D 60, and inflows 6000, 0, 1
+abbrev pub twoRows : List ℕ
+twoRows = 0 ∷ 0 ∷ 0 ∷ 1000 ∷ 9000 ∷ 100 ∷ []
+
+abbrev pub inflows : List ℕ
+inflows = 6000 ∷ 0 ∷ 1 ∷ []
+
+abbrev pub outflowRows : List ℕ
+outflowRows = outflows 30 twoRows empty inflows
+
+abbrev pub storageRows : List ℕ
+storageRows = storages 30 twoRows empty inflows
 
 abbrev pub lines : List Line
 lines =
@@ -31,4 +48,13 @@ lines =
     ∷ (weight 216 60 1 is 170000)
     ∷ (weight 216 60 18 is 0)
     ∷ (volumeOf 100 1000000 is 3630000)
+    ∷ (at outflowRows 0 is 50)
+    ∷ (at outflowRows 1 is 25)
+    ∷ (at outflowRows 2 is 12)
+    ∷ (at storageRows 0 is 4500)
+    ∷ (at storageRows 1 is 2250)
+    ∷ (at storageRows 2 is 1141)
+    ∷ (sumTo (releaseAt 30 0 outflowRows) 3 is 4860)
+    ∷ (sumTo (releaseAt 30 0 outflowRows) 3 + at storageRows 2 is 6001)
+    ∷ (total inflows is 6001)
     ∷ []

@@ -1,0 +1,30 @@
+-- `pond::first_bad` meets its contract. Assumes nothing.
+use mathlib.Core.Path.{sym, _∙_}
+use Prim.Native.Nat.{_-_}
+use native.Mathlib.Omega.{arith}
+use borrow.Author.Needs.{needs}
+use borrow.Author.Tests.{not-true, not-false}
+use Rattle.laws.proofs.Scans.{Scanning, scan-start, scan-go, scan-stop, scan-done}
+use Rattle.pond.specs.PondRows.{count, rowGood}
+use Rattle.pond.proofs.first_bad.Statement.{statement}
+use Rattle.pond.proofs.first_bad.Tie as tie
+
+abbrev Inv-loop : tie.InvT-loop
+Inv-loop pond n i₀ i = Scanning (rowGood pond) (count pond) i
+
+abbrev μ-loop : tie.MeasureT-loop
+μ-loop pond n i₀ i = n - i
+
+stop : tie.Need-returns Inv-loop μ-loop
+stop c = scan-stop _ _ (c .before .before .before .loop .inv) (omega arith) (sym (c .before .row-good .ensures) ∙ not-true _ (c .if1 .taken))
+
+again : tie.Need-loop-again Inv-loop μ-loop
+again c = scan-go _ _ (c .before .before .before .loop .inv) (omega arith) (sym (c .before .row-good .ensures) ∙ not-false _ (c .if1 .left))
+
+done : tie.Need-returns-2 Inv-loop μ-loop
+done c = scan-done _ _ (c .before .loop .inv) (omega arith)
+
+pub first-bad-spec : {M : Type 1} → statement M
+first-bad-spec =
+    tie.close
+    (tie.spec Inv-loop μ-loop (λ c. scan-start _ _) (λ c κs. search needs) stop (λ c. search needs) (λ c. search needs) again done)

@@ -1,0 +1,103 @@
+-- The figures of the first rows, one row at a time. Assumes nothing.
+use mathlib.Core.Path.{_≡_, refl, sym, ap, _∙_}
+use mathlib.Core.Bool.{Bool, true, false}
+use mathlib.Core.Logic.{⊎-elim}
+use mathlib.Core.List.{List}
+use Prim.Native.Nat.{ℕ, zero, suc, _+_, _-_, _*_, _≤_, _<_, max}
+use native.Mathlib.Nat.{eq-or-lt-of-le, le-of-suc-le-suc, eq-zero-or-pos}
+use native.Mathlib.Numerals.{add-one}
+use native.Mathlib.Omega.{arith}
+use borrow.Author.Tests.{ltb-true, ltb-false, lt-ltb, le-ltb}
+use lib.Dec.{ltb}
+use Rattle.laws.specs.Pick.{pick}
+use Rattle.laws.specs.Scan.{scan}
+use Rattle.laws.specs.Sum.{sumTo}
+use Rattle.laws.proofs.Num.{below-or-not}
+use Rattle.laws.proofs.Sums.{sum-more}
+use Rattle.laws.proofs.Scans.{scan-is, scan-before, scan-bad, scan-most}
+use Rattle.rows.specs.declared.Kept.{Kept}
+use Rattle.rows.specs.Standing.{maxTo, at, before, releaseAt, peakRow, rowStage, keptTo, keptWith}
+
+-- one more
+pub max-more : (f : ℕ → ℕ) (n : ℕ) → maxTo f (n + 1) ≡ max (maxTo f n) (f n)
+unfolding maxTo
+max-more f n = rw add-one
+
+pub max-none : (f : ℕ → ℕ) → maxTo f 0 ≡ 0
+unfolding maxTo
+max-none f = refl
+
+-- none is above the greatest
+pub max-over : (f : ℕ → ℕ) (i n : ℕ) → i < n → f i ≤ maxTo f n
+unfolding maxTo
+max-over f i zero l = absurd (omega arith)
+max-over f i (suc n) l = ⊎-elim (λ (e : i ≡ n). rw e (omega arith)) (λ (k : i < n). omega (arith, max-over f i n k)) (eq-or-lt-of-le (le-of-suc-le-suc l))
+
+-- the greatest is at most what all are at most
+pub max-most : (f : ℕ → ℕ) (m n : ℕ) → ((i : ℕ) → i < n → f i ≤ m) → maxTo f n ≤ m
+unfolding maxTo
+max-most f m zero h = omega arith
+max-most f m (suc n) h = omega (arith, max-most f m n (λ i l. h i (omega arith)), h n (omega arith))
+
+-- the same of functions that agree
+pub max-same : (f g : ℕ → ℕ) (n : ℕ) → ((i : ℕ) → i < n → f i ≡ g i) → maxTo f n ≡ maxTo g n
+unfolding maxTo
+max-same f g zero h = refl
+max-same f g (suc n) h = omega (arith, max-same f g n (λ i l. h i (omega arith)), h n (omega arith))
+
+module _ (os : List ℕ) where
+  abbrev below : ℕ → ℕ → Bool
+  below n i = ltb (at os i) (maxTo (at os) n)
+
+  -- some row has the greatest outflow
+  pub peak-there : (n : ℕ) → 0 < n → scan (below n) n 0 < n
+  peak-there n l = ⊎-elim (λ (w : scan (below n) n 0 < n). w) (λ (w : n ≤ scan (below n) n 0). absurd (never w)) (below-or-not (scan (below n) n 0) n)
+    where
+      never : n ≤ scan (below n) n 0 → ⊥
+      never w =
+          let under : (i : ℕ) → i < n → at os i < maxTo (at os) n = λ i k. ltb-true (at os i) (maxTo (at os) n) (scan-before (below n) n 0 i (omega arith) (omega arith)) in
+          omega (arith, under 0 l, max-most (at os) (maxTo (at os) n - 1) n (λ i k. omega (arith, under i k)))
+
+  -- a row above all before it is the peak row, any other leaves it
+  pub peak-more : (n : ℕ) → peakRow os (n + 1) ≡ pick (ltb (maxTo (at os) n) (at os n)) (n + 1) (peakRow os n)
+  unfolding peakRow
+  peak-more n = ⊎-elim higher no-higher (below-or-not (maxTo (at os) n) (at os n))
+    where
+      higher : maxTo (at os) n < at os n → scan (below (n + 1)) (n + 1) 0 + 1 ≡ pick (ltb (maxTo (at os) n) (at os n)) (n + 1) (scan (below n) n 0 + 1)
+      higher w =
+          let top : maxTo (at os) (n + 1) ≡ at os n = omega (arith, max-more (at os) n) in
+          let found : scan (below (n + 1)) (n + 1) 0 ≡ n
+          = scan-is (below (n + 1)) (n + 1) n (omega arith)
+          (λ k l. lt-ltb (at os k) (maxTo (at os) (n + 1)) (omega (arith, max-over (at os) k n l, top)))
+          (λ l. le-ltb (at os n) (maxTo (at os) (n + 1)) (omega (arith, top))) in
+          rw (lt-ltb (maxTo (at os) n) (at os n) w) (omega (arith, found))
+
+      here : at os n ≤ maxTo (at os) n → maxTo (at os) (n + 1) ≡ maxTo (at os) n → at os (scan (below n) n 0) < maxTo (at os) n → ⊥
+      here w e l =
+          ⊎-elim (λ (z : n ≡ 0). none z)
+          (λ (some : 0 < n). omega (arith, ltb-false (at os (scan (below n) n 0)) (maxTo (at os) n) (scan-bad (below n) n 0 (omega (arith, peak-there n some))), l))
+          (eq-zero-or-pos n)
+        where
+          none : n ≡ 0 → ⊥
+          none z = omega (arith, l, ap (maxTo (at os)) z, max-none (at os))
+
+      no-higher : at os n ≤ maxTo (at os) n → scan (below (n + 1)) (n + 1) 0 + 1 ≡ pick (ltb (maxTo (at os) n) (at os n)) (n + 1) (scan (below n) n 0 + 1)
+      no-higher w =
+          let e : maxTo (at os) (n + 1) ≡ maxTo (at os) n = omega (arith, max-more (at os) n) in
+          let found : scan (below (n + 1)) (n + 1) 0 ≡ scan (below n) n 0
+          = scan-is (below (n + 1)) (n + 1) (scan (below n) n 0) (omega (arith, scan-most (below n) n 0))
+          (λ k l. lt-ltb (at os k) (maxTo (at os) (n + 1)) (omega (arith, e, ltb-true (at os k) (maxTo (at os) n) (scan-before (below n) n 0 k (omega arith) l))))
+          (λ l. le-ltb (at os (scan (below n) n 0)) (maxTo (at os) (n + 1)) (⊎-elim (λ (m : at os (scan (below n) n 0) < maxTo (at os) n). absurd (here w e m)) (λ (m : maxTo (at os) n ≤ at os (scan (below n) n 0)). omega (arith, e, m)) (below-or-not (at os (scan (below n) n 0)) (maxTo (at os) n)))) in
+          rw (le-ltb (maxTo (at os) n) (at os n) w) (omega (arith, found))
+
+-- the figures with one row more
+pub kept-more : (h : ℕ) (p : List ℕ) (o : ℕ) (os ss : List ℕ) (n : ℕ)
+    → keptTo h p o os ss (n + 1) ≡ keptWith (keptTo h p o os ss n) h (before o os n) (at os n) (rowStage h p os ss n) (n + 1)
+unfolding keptTo
+kept-more h p o os ss n =
+    rw (sum-more (releaseAt h o os) n, max-more (at os) n, max-more (rowStage h p os ss) n, peak-more os n)
+
+-- of no rows
+pub kept-none : (h : ℕ) (p : List ℕ) (o : ℕ) (os ss : List ℕ) → keptTo h p o os ss 0 ≡ record { released = 0; peak = 0; row = 1; stage = 0 }
+unfolding sumTo maxTo scan peakRow keptTo
+kept-none h p o os ss = refl
