@@ -85,6 +85,13 @@ module _ (good : ℕ → Bool) where
       (λ (w : r ≤ scan good n 0). ⊎-elim (λ (e : r ≡ scan good n 0). sym e) (λ (m : r < scan good n 0). absurd (true≢false (sym (scan-before n 0 r (omega arith) m) ∙ here (omega (arith, scan-most n 0))))) (eq-or-lt-of-le w))
       (below-or-not (scan good n 0) r)
 
+-- tests that agree scan alike
+pub scan-same : (f g : ℕ → Bool) (n i : ℕ) → ((k : ℕ) → i ≤ k → k < i + n → f k ≡ g k) → scan f n i ≡ scan g n i
+unfolding scan
+scan-same f g zero i h = refl
+scan-same f g (suc n) i h =
+    rw (h i (omega arith) (omega arith), scan-same f g n (i + 1) (λ k lo hi. h k (omega arith) (omega arith)))
+
 -- The invariant of a loop that scans, at place i: what is left to scan gives what the whole scan gives. Each law below answers one of its needs
 pub record Scanning (good : ℕ → Bool) (n i : ℕ) : Type 0 where
   pub at : i ≤ n

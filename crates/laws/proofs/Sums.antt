@@ -61,3 +61,9 @@ unfolding sumTo
 sum-zeros f m zero l z = let e : m ≡ 0 = omega arith in rw e
 sum-zeros f m (suc n) l z =
     ⊎-elim (λ e. rw e) (λ k. omega (arith, z n (omega arith) (omega arith), sum-zeros f m n (le-of-suc-le-suc k) (λ i a b. z i a (omega arith)))) (eq-or-lt-of-le l)
+
+-- more terms never make a sum less
+pub sum-upto : (f : ℕ → ℕ) (m n : ℕ) → m ≤ n → sumTo f m ≤ sumTo f n
+unfolding sumTo
+sum-upto f m zero l = let e : m ≡ 0 = omega arith in rw e (omega arith)
+sum-upto f m (suc n) l = ⊎-elim (λ (e : m ≡ suc n). rw e (omega arith)) (λ (k : m < suc n). omega (arith, sum-upto f m n (le-of-suc-le-suc k))) (eq-or-lt-of-le l)

@@ -1,0 +1,165 @@
+// Reading: lines, fields, whole numbers, printed figures and lists, out of bytes. A text that is no
+// number reads as NONE, which is above every limit of the engine, so that a row with one is
+// reported and never run.
+ghost use Prim.Native.Nat.{_≤_, _<_};
+ghost use lib.ListN.{length};
+ghost use Rattle.io.specs.Counts.{Counts};
+ghost use Rattle.figures.specs.Bounds.{Within};
+
+pub(crate) const NONE: u64 = 1000000000000000;
+
+// The first place from `from` on that holds either byte, or the end.
+pub(crate) fn find(s: &[u8], from: usize, one: u8, two: u8) -> usize
+    requires { ⌜ from ≤ length (now s) ⌝ }
+    ensures { λ r. ⌜ Within from r (now (s .entry)) ⌝ }
+{
+    let mut i = from;
+    while i < s.len() {
+        if s[i] == one {
+            return i;
+        }
+        if s[i] == two {
+            return i;
+        }
+        i += 1;
+    }
+    i
+}
+
+// The place after e, or the end.
+fn past(s: &[u8], e: usize) -> usize
+    requires { ⌜ e ≤ length (now s) ⌝ }
+    ensures { λ r. ⌜ r ≤ length (now (s .entry)) ⌝ }
+{
+    if e < s.len() { e + 1 } else { e }
+}
+
+// Where piece k of a text starts, counted from 0; the end where the text has no such piece.
+fn start(s: &[u8], k: u64, separator: u8) -> usize
+    ensures { λ r. ⌜ r ≤ length (now (s .entry)) ⌝ }
+{
+    let mut at = 0;
+    let mut left = k;
+    while left > 0 {
+        let e = find(s, at, separator, separator);
+        at = past(s, e);
+        left -= 1;
+    }
+    at
+}
+
+pub(crate) fn piece(s: &[u8], k: u64, separator: u8) -> &[u8] {
+    let at = start(s, k, separator);
+    let e = find(s, at, separator, separator);
+    &s[at..e]
+}
+
+pub(crate) fn field(line: &[u8], k: u64) -> &[u8] {
+    piece(line, k, b',')
+}
+
+// How many fields a row has.
+pub(crate) fn fields(line: &[u8]) -> usize {
+    let mut n: usize = 1;
+    let mut i = 0;
+    while i < line.len() {
+        n += comma(line[i]);
+        i += 1;
+    }
+    n
+}
+
+fn comma(b: u8) -> usize
+    ensures { λ r. ⌜ r ≤ 1 ⌝ }
+{
+    if b == b',' { 1 } else { 0 }
+}
+
+// One digit more behind n. NONE stays NONE.
+fn with(n: u64, b: u8) -> u64 {
+    if n >= NONE / 10 {
+        return NONE;
+    }
+    if b < b'0' {
+        return NONE;
+    }
+    if b > b'9' {
+        return NONE;
+    }
+    n * 10 + (b - b'0') as u64
+}
+
+// The digits of s behind those of n.
+fn behind(n: u64, s: &[u8]) -> u64 {
+    let mut r = n;
+    let mut i = 0;
+    while i < s.len() {
+        r = with(r, s[i]);
+        i += 1;
+    }
+    r
+}
+
+pub(crate) fn whole(s: &[u8]) -> u64 {
+    if s.len() == 0 { NONE } else { behind(0, s) }
+}
+
+pub(crate) fn number(line: &[u8], k: u64) -> u64 {
+    whole(field(line, k))
+}
+
+pub(crate) fn has_point(s: &[u8]) -> bool {
+    find(s, 0, b'.', b'.') < s.len()
+}
+
+// The decimals of a figure as a manual prints it.
+fn decimals(s: &[u8]) -> &[u8] {
+    let e = find(s, 0, b'.', b'.');
+    let at = past(s, e);
+    &s[at..]
+}
+
+pub(crate) fn places(s: &[u8]) -> usize {
+    decimals(s).len()
+}
+
+// The digits of a printed figure as one whole number.
+pub(crate) fn digits(s: &[u8]) -> u64 {
+    let e = find(s, 0, b'.', b'.');
+    behind(whole(&s[0..e]), decimals(s))
+}
+
+// The first byte, 0 of an empty text.
+pub(crate) fn first(s: &[u8]) -> u8 {
+    if s.len() == 0 { 0 } else { s[0] }
+}
+
+// A whole number, or a soil group's letter as its number.
+fn item(s: &[u8]) -> u64 {
+    let b = first(s);
+    match b {
+        b'A' => 1,
+        b'B' => 2,
+        b'C' => 3,
+        b'D' => 4,
+        _ => whole(s),
+    }
+}
+
+// The numbers of a list such as 4:B:20;3:B:80, and how many; none where they are too many.
+pub(crate) fn list(s: &[u8], out: &mut [u64]) -> usize
+    ensures { λ r. ⌜ Counts r (now (out .exit)) ⌝ }
+{
+    let mut n = 0;
+    let mut at = 0;
+    while at < s.len() {
+        if n >= out.len() {
+            return 0;
+        }
+        let e = find(s, at, b':', b';');
+        out[n] = item(&s[at..e]);
+        n += 1;
+        at = e + 1;
+    }
+    n
+}
