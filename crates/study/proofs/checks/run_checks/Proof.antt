@@ -1,0 +1,27 @@
+-- `study::checks::run_checks` meets its contract. Assumes nothing.
+use mathlib.Core.Path.{ap, _∙_}
+use mathlib.Core.Bool.{Bool}
+use borrow.Author.Needs.{needs}
+use Rattle.study.specs.Refusals.{unless, runChecks}
+use Rattle.study.proofs.Orders.{or-same}
+use Rattle.study.proofs.checks.run_checks.Statement.{statement}
+use Rattle.study.proofs.checks.run_checks.Tie as tie
+
+returns : tie.Need-returns
+unfolding runChecks
+returns c =
+    c .or-else4 .ensures
+    ∙ or-same (c .before .before .before .before .before .before .before .before .before .before .before .unless .ensures ∙ ap (unless 1) (c .before .before .before .before .before .before .before .before .before .before .before .before .lengths-good .ensures))
+    (c .before .or-else3 .ensures
+    ∙ or-same (c .before .before .before .before .before .before .before .before .before .unless2 .ensures ∙ ap (unless 2) (c .before .before .before .before .before .before .before .before .before .before .step-good .ensures))
+    (c .before .before .or-else2 .ensures
+    ∙ or-same (c .before .before .before .before .before .before .before .before .rain-check .ensures)
+    (c .before .before .before .or-else .ensures
+    ∙ or-same (c .before .before .before .before .before .before .unless3 .ensures ∙ ap (unless 4) (c .before .before .before .before .before .before .before .last-good .ensures))
+    (c .before .before .before .before .unless4 .ensures ∙ ap (unless 5) (c .before .before .before .before .before .records-good .ensures)))))
+
+pub run-checks-spec : {M : Type 1} → statement M
+run-checks-spec =
+    tie.close
+    (tie.spec (λ c κs. search needs) (λ c κs. search needs) (λ c κs. search needs) (λ c κs. search needs) (λ c κs. search needs) (λ c κs. search needs)
+    (λ c κs. search needs) (λ c κs. search needs) (λ c κs. search needs) (λ c κs. search needs) (λ c κs. search needs) (λ c κs. search needs) (λ c κs. search needs) returns)
