@@ -77,8 +77,8 @@ unfoldable pub refusalOf : Setup → List ℕ → List ℕ → List ℕ → ℕ 
 refusalOf g rain s p m o t = orElse (checksOf (g .step) (g .first) rain s p m o t) (overOf (g .step) rain s p m)
 
 -- the first of its inflow rows alone, in the order 1 to 11
-unfoldable pub inflowRefusal : Setup → List ℕ → List ℕ → ℕ → Refusal
-inflowRefusal g rain s m = orElse (runChecks (g .step) (g .first) rain s m m m) (listChecks (g .step) s)
+unfoldable pub inflowRefusal : Setup → List ℕ → List ℕ → ℕ → ℕ → ℕ → Refusal
+inflowRefusal g rain s m o t = orElse (runChecks (g .step) (g .first) rain s m o t) (listChecks (g .step) s)
 
 abbrev pub passes : Refusal → Bool
 passes v = eqb (v .number) 0

@@ -238,13 +238,26 @@ fn work(
     )
 }
 
-// The inflow rows alone: refusals 1 to 11, and no pond.
-pub fn inflow(setup: Setup, rain: &[u64], subareas: &[u64], rows: &mut [u64]) -> Refusal
-    ensures { λ r. ⌜ r ≡ inflowRefusal setup (now (rain .entry)) (now (subareas .entry)) (length (now (rows .entry))) ⌝ }
-    ensures { λ _. ⌜ now (rows .exit) ≡ after (inflowRefusal setup (now (rain .entry)) (now (subareas .entry)) (length (now (rows .entry)))) (inflowRows (setup .step) (now (rain .entry)) (now (subareas .entry)) (length (now (rows .entry)))) (now (rows .entry)) ⌝ }
+// The inflow rows alone: refusals 1 to 11, and no pond. Of the outflow and storage lists only the lengths are read.
+pub fn inflow(
+    setup: Setup,
+    rain: &[u64],
+    subareas: &[u64],
+    rows: &mut [u64],
+    outflow: &[u64],
+    storage: &[u64],
+) -> Refusal
+    ensures { λ r. ⌜ r ≡ inflowRefusal setup (now (rain .entry)) (now (subareas .entry)) (length (now (rows .entry))) (length (now (outflow .entry))) (length (now (storage .entry))) ⌝ }
+    ensures { λ _. ⌜ now (rows .exit) ≡ after (inflowRefusal setup (now (rain .entry)) (now (subareas .entry)) (length (now (rows .entry))) (length (now (outflow .entry))) (length (now (storage .entry)))) (inflowRows (setup .step) (now (rain .entry)) (now (subareas .entry)) (length (now (rows .entry)))) (now (rows .entry)) ⌝ }
 {
-    let m = rows.len();
-    let v = checks::inflow_checks(setup, rain, subareas, m, m, m);
+    let v = checks::inflow_checks(
+        setup,
+        rain,
+        subareas,
+        rows.len(),
+        outflow.len(),
+        storage.len(),
+    );
     if v.number == 0 {
         fill_inflow(setup.step, rain, subareas, rows);
     }

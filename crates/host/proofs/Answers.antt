@@ -1,0 +1,12 @@
+-- Each promise of this crate allows one answer, and one later content of what it is lent. Assumes nothing.
+use mathlib.Core.List.{List}
+use Prim.Native.Nat.{ℕ}
+use denote.Ref.{now}
+use Rattle.laws.proofs.OneAnswer.{OneAnswerAnd, same}
+use Rattle.host.proofs.bt_study.Kinds as bt-study-kinds
+use Rattle.host.proofs.bt_study.Reads as bt-study-reads
+
+pub bt-study-one : OneAnswerAnd bt-study-kinds.ps bt-study-kinds.r {L = List ℕ × (List ℕ × (List ℕ × List ℕ))}
+    (λ κs s. (now (s .1 .1 .1 .1 .1 .1 .1 .1 .0), (now (s .1 .1 .1 .1 .1 .0), (now (s .1 .1 .1 .1 .1 .1 .0), now (s .1 .1 .1 .1 .1 .1 .1 .0))))) bt-study-reads.Post
+bt-study-one κs a x y s t p q =
+    (same (p .0) (q .0), λ i. (same (p .1 .0) (q .1 .0) i, (same (p .1 .1 .0) (q .1 .1 .0) i, (same (p .1 .1 .1 .0) (q .1 .1 .1 .0) i, same (p .1 .1 .1 .1) (q .1 .1 .1 .1) i))))

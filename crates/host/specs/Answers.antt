@@ -1,0 +1,18 @@
+-- Answers as a host has them: twelve numbers, the refusal, its place, then the figures.
+use mathlib.Core.List.{List, [], _∷_}
+use Prim.Native.Nat.{ℕ}
+use Rattle.study.specs.declared.Setup.{Setup}
+use Rattle.study.specs.declared.Figures.{Figures}
+use Rattle.study.specs.declared.StudyAnswer.{StudyAnswer}
+use Rattle.study.specs.Study.{refusalIn, valuesIn}
+
+abbrev pub setupOf : ℕ → ℕ → Setup
+setupOf D first = record { step = D; first = first }
+
+abbrev pub numbers : ℕ → ℕ → Figures → List ℕ
+numbers number place f =
+    number ∷ place ∷ f .inflow ∷ f .released ∷ f .storage ∷ f .peak ∷ f .row ∷ f .stage ∷ f .surfaces ∷ f .districts ∷ f .lots ∷ f .rural ∷ []
+
+-- refused: the number and the place, every value 0; done: 0 and 0, and the values
+abbrev pub numbersOf : StudyAnswer → List ℕ
+numbersOf a = numbers (refusalIn a .number) (refusalIn a .place) (valuesIn a)
