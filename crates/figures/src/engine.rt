@@ -1,21 +1,37 @@
 // The engine's functions behind their limits: NONE where the numbers are out of them.
-ghost use Prim.Native.Nat.{_≤_};
+use crate::ponds;
 use crate::text::NONE;
 
 // Document 01's least step; the base rule's time to peak is the same at every step.
 const STEP: u64 = 60;
 
-pub(crate) struct Times {
-    pub(crate) concentration: u64,
-    pub(crate) peak: u64,
+// What a row's function gives: up to four figures, NONE for each that it does not have.
+pub(crate) struct Figures {
+    pub(crate) a: u64,
+    pub(crate) b: u64,
+    pub(crate) c: u64,
+    pub(crate) d: u64,
 }
 
-struct Sums {
-    weighted: u64,
-    area: u64,
+pub(crate) fn two(a: u64, b: u64) -> Figures {
+    Figures {
+        a,
+        b,
+        c: NONE,
+        d: NONE,
+    }
 }
 
-pub(crate) fn cover(cover: u64, soil: u64) -> u64 {
+fn one(a: u64) -> Figures {
+    two(a, NONE)
+}
+
+// A row's number, NONE where it has none there.
+fn at(n: &[u64], i: usize) -> u64 {
+    if i < n.len() { n[i] } else { NONE }
+}
+
+fn cover(cover: u64, soil: u64) -> u64 {
     if cover < 1 {
         return NONE;
     }
@@ -31,7 +47,16 @@ pub(crate) fn cover(cover: u64, soil: u64) -> u64 {
     curve::cover_number(cover, soil)
 }
 
-pub(crate) fn composite(patches: &[u64]) -> u64 {
+fn covers(number: u64) -> Figures {
+    Figures {
+        a: cover(number, 1),
+        b: cover(number, 2),
+        c: cover(number, 3),
+        d: cover(number, 4),
+    }
+}
+
+fn composite(patches: &[u64]) -> u64 {
     if curve::patches_good(patches) {
         let ground = curve::composite(patches);
         ground.curve
@@ -40,62 +65,21 @@ pub(crate) fn composite(patches: &[u64]) -> u64 {
     }
 }
 
-// One curve number and its area more. Sums that are out of limits stay so.
-fn weighed(s: Sums, number: u64, area: u64) -> Sums {
-    let out = Sums {
-        weighted: NONE,
-        area: NONE,
-    };
-    if number > 100 {
-        return out;
+// The mean of curve numbers that no cover code has: their sum by area, and the area.
+fn mean(weighted: u64, area: u64) -> u64 {
+    if area < 1 {
+        return NONE;
     }
-    if area > 1000000 {
-        return out;
+    if area > 1000000000000 {
+        return NONE;
     }
-    if s.weighted > 999000000000 {
-        return out;
+    if weighted > 1000000000000 {
+        return NONE;
     }
-    if s.area > 999000000000 {
-        return out;
-    }
-    Sums {
-        weighted: s.weighted + number * area,
-        area: s.area + area,
-    }
+    curve::nearest(weighted, area)
 }
 
-fn summed(pairs: &[u64]) -> Sums {
-    let mut s = Sums {
-        weighted: 0,
-        area: 0,
-    };
-    let mut i = 1;
-    while i < pairs.len() {
-        s = weighed(s, pairs[i - 1], pairs[i]);
-        i += 2;
-    }
-    s
-}
-
-// The mean of curve numbers that no cover code has, given in pairs of a number and its area.
-pub(crate) fn mean(pairs: &[u64]) -> u64 {
-    if pairs.len() % 2 != 0 {
-        return NONE;
-    }
-    let s = summed(pairs);
-    if s.area < 1 {
-        return NONE;
-    }
-    if s.area > 1000000000000 {
-        return NONE;
-    }
-    if s.weighted > 1000000000000 {
-        return NONE;
-    }
-    curve::nearest(s.weighted, s.area)
-}
-
-pub(crate) fn depth(curve: u64, rain: u64) -> u64 {
+fn depth(curve: u64, rain: u64) -> u64 {
     if curve < 30 {
         return NONE;
     }
@@ -108,56 +92,129 @@ pub(crate) fn depth(curve: u64, rain: u64) -> u64 {
     runoff::depth(curve, rain)
 }
 
-fn segment(kind: u64, length: u64, rate: u64) -> u64
-    requires { ⌜ (1 ≤ length) × (length ≤ 4000) ⌝ }
-{
-    if kind < 1 {
-        return NONE;
+// At four rains, which stand behind the curve number.
+fn depths(n: &[u64], curve: u64) -> Figures {
+    Figures {
+        a: depth(curve, at(n, 1)),
+        b: depth(curve, at(n, 2)),
+        c: depth(curve, at(n, 3)),
+        d: depth(curve, at(n, 4)),
     }
-    if kind > 3 {
-        return NONE;
-    }
-    if rate < 1 {
-        return NONE;
-    }
-    if rate > 10000 {
-        return NONE;
-    }
-    travel::segment_time(kind, length, rate)
 }
 
-// The time along a length, entered as two equal segments where it is over 4,000 ft.
-pub(crate) fn time(kind: u64, length: u64, rate: u64) -> u64 {
-    if length < 1 {
-        return NONE;
+fn segment(kind: u64, length: u64, rate: u64) -> u64 {
+    let one = [kind, length, rate];
+    if travel::segments_good(&one) {
+        travel::segment_time(kind, length, rate)
+    } else {
+        NONE
     }
-    if length <= 4000 {
-        return segment(kind, length, rate);
-    }
-    if length % 2 != 0 {
-        return NONE;
-    }
-    if length > 8000 {
-        return NONE;
-    }
-    twice(segment(kind, length / 2, rate))
 }
 
-fn twice(n: u64) -> u64 {
-    if n < NONE { n * 2 } else { NONE }
-}
-
-pub(crate) fn path(segments: &[u64]) -> Times {
+fn path(segments: &[u64]) -> Figures {
     if travel::segments_good(segments) {
         let tc = travel::concentration(segments);
-        Times {
-            concentration: tc,
-            peak: travel::time_to_peak(STEP, tc),
-        }
+        let at = timing(STEP, tc);
+        two(tc, at.a)
     } else {
-        Times {
-            concentration: NONE,
-            peak: NONE,
-        }
+        one(NONE)
+    }
+}
+
+// Tp, and the first of refusals 9 to 11 that a Tc meets at a step, 0 for none.
+fn timing(step: u64, tc: u64) -> Figures {
+    if step > 3600 {
+        return one(NONE);
+    }
+    if tc < 360 {
+        return one(NONE);
+    }
+    if tc > 2400000 {
+        return one(NONE);
+    }
+    let peak = travel::time_to_peak(step, tc);
+    if !hydrograph::timing_good(9, step, tc) {
+        return two(peak, 9);
+    }
+    if !hydrograph::timing_good(10, step, tc) {
+        return two(peak, 10);
+    }
+    if !hydrograph::timing_good(11, step, tc) {
+        return two(peak, 11);
+    }
+    two(peak, 0)
+}
+
+fn weight(peak: u64, step: u64, j: u64) -> u64 {
+    if step < 60 {
+        return NONE;
+    }
+    if step > 3600 {
+        return NONE;
+    }
+    if peak < step {
+        return NONE;
+    }
+    if peak > 400000 {
+        return NONE;
+    }
+    if 5 * peak > 512 * step {
+        return NONE;
+    }
+    if j > 512 {
+        return NONE;
+    }
+    if j * step > 5 * peak {
+        return NONE;
+    }
+    hydrograph::weight(peak, step, j)
+}
+
+fn volume(area: u64, depth: u64) -> u64 {
+    if area > 200000 {
+        return NONE;
+    }
+    if depth > 30000000 {
+        return NONE;
+    }
+    hydrograph::volume(area, depth)
+}
+
+// Of two areas as one; a row with one area has 0 for the other.
+fn volumes(n: &[u64]) -> Figures {
+    let a = volume(at(n, 0), at(n, 1));
+    let b = volume(at(n, 2), at(n, 3));
+    if a >= NONE {
+        return one(NONE);
+    }
+    if b >= NONE {
+        return one(NONE);
+    }
+    one(a + b)
+}
+
+// X of a row, the last of its figures, alone.
+fn last(f: Figures) -> Figures {
+    one(f.d)
+}
+
+// The function that a row names, on its numbers.
+pub(crate) fn worked(function: u8, n: &[u64]) -> Figures {
+    match function {
+        b'c' => covers(at(n, 0)),
+        b'p' => one(composite(n)),
+        b'm' => one(mean(at(n, 0), at(n, 1))),
+        b'd' => one(depth(at(n, 0), at(n, 1))),
+        b'a' => depths(n, at(n, 0)),
+        b's' => one(segment(at(n, 0), at(n, 1), at(n, 2))),
+        b'f' => path(n),
+        b't' => timing(at(n, 0), at(n, 1)),
+        b'w' => one(weight(at(n, 0), at(n, 1), at(n, 2))),
+        b'v' => volumes(n),
+        b'X' => one(ponds::sum(n)),
+        b'r' => ponds::routed(n),
+        b'x' => last(ponds::routed(n)),
+        b'l' => one(ponds::refusal(ponds::routed(n))),
+        _ => one(NONE),
     }
 }

@@ -19,50 +19,29 @@ pub(crate) const NOT_RUN: u64 = 6;
 
 pub(crate) const NOT_IN_BASE: u64 = 7;
 
-pub(crate) const FROM: u64 = 8;
+pub(crate) const ROWS: u64 = 8;
 
-pub(crate) const IN_TENTHS: u64 = 9;
+pub(crate) const RIGHT: u64 = 9;
 
-pub(crate) const GIVES: u64 = 10;
+pub(crate) const NOT_RIGHT: u64 = 10;
 
-pub(crate) const TC: u64 = 11;
+pub(crate) const AGREE: u64 = 11;
 
-pub(crate) const TP: u64 = 12;
+pub(crate) const DIFFER: u64 = 12;
 
-pub(crate) const ROWS: u64 = 13;
+pub(crate) const IDLE: u64 = 13;
 
-pub(crate) const RIGHT: u64 = 14;
+pub(crate) const NAMED_WRONG: u64 = 14;
 
-pub(crate) const NOT_RIGHT: u64 = 15;
+pub(crate) const NAMED_DIFFER: u64 = 15;
 
-pub(crate) const AGREE: u64 = 16;
+pub(crate) const CUT: u64 = 16;
 
-pub(crate) const DIFFER: u64 = 17;
+pub(crate) const NO_FILE: u64 = 17;
 
-pub(crate) const IDLE: u64 = 18;
+pub(crate) const IN_PRINT: u64 = 18;
 
-pub(crate) const NAMED_WRONG: u64 = 19;
-
-pub(crate) const NAMED_DIFFER: u64 = 20;
-
-pub(crate) const CUT: u64 = 21;
-
-pub(crate) const NO_FILE: u64 = 22;
-
-pub(crate) const NO_WHOLE_FILE: u64 = 23;
-
-pub(crate) const KIND: u64 = 24;
-
-pub(crate) const CURVE: u64 = 25;
-
-pub(crate) const IN_PRINT: u64 = 26;
-
-pub(crate) const RAIN: u64 = 27;
-
-pub(crate) const BLANKS: u64 = 28;
-
-// The first n bytes of a phrase.
-pub(crate) fn begin(k: u64, n: usize) {
+pub(crate) fn say(k: u64) {
     let all = b", as expected\
         |, WRONG: should be \
         |; printed \
@@ -71,11 +50,6 @@ pub(crate) fn begin(k: u64, n: usize) {
         |UNREADABLE\
         |not run: \
         | is not in the base engine\
-        | from \
-        | in tenths, rounds to \
-        | gives \
-        |Tc \
-        |, Tp \
         | rows: \
         | as expected, \
         | not\
@@ -85,17 +59,7 @@ pub(crate) fn begin(k: u64, n: usize) {
         |, WRONG: \
         |; do not agree: \
         |.. and more\
-        | cannot be opened: \
-        | is empty or too long: \
-        |kind \
-        |curve number \
-        |; printed: \
-        |rain\
-        |                                                        ";
-    let s = text::piece(all, k, b'|');
-    if n < s.len() {
-        say::bytes(&s[0..n]);
-    } else {
-        say::bytes(s);
-    }
+        | cannot be read, or not as a whole: \
+        |; printed: ";
+    say::bytes(text::piece(all, k, b'|'));
 }

@@ -1,6 +1,6 @@
 // Printing, on standard output.
 use crate::phrases;
-use crate::text;
+use crate::text::NONE;
 use libc::STDOUT_FILENO;
 
 pub(crate) fn bytes(s: &[u8]) {
@@ -16,33 +16,21 @@ pub(crate) fn number(n: u64) {
     io::print_decimal(STDOUT_FILENO, n);
 }
 
-pub(crate) fn phrase(k: u64) {
-    phrases::begin(k, 4096);
-}
-
-// Blanks behind what takes `used` bytes of a column.
-fn fill(used: usize, column: usize) {
-    if used < column {
-        phrases::begin(phrases::BLANKS, column - used);
-    }
-}
-
-// A number at the right of a column.
-pub(crate) fn right(n: u64, column: usize) {
-    let mut digits = [0u8; 20];
-    let k = io::decimal(n, &mut digits);
-    fill(k, column);
-    bytes(&digits[..k]);
-}
-
-// How a row's line begins: the table's word and the row's label, its first field, in a column.
-pub(crate) fn head(word: &[u8], line: &[u8], column: usize) {
-    let label = text::field(line, 0);
+// How a row's line begins: the table's word and the row's label.
+pub(crate) fn head(word: &[u8], label: &[u8]) {
     bytes(word);
     byte(b' ');
     bytes(label);
     byte(b':');
-    fill(label.len(), column);
+    byte(b' ');
+}
+
+// A figure behind another, where there is one.
+pub(crate) fn further(n: u64) {
+    if n < NONE {
+        byte(b' ');
+        number(n);
+    }
 }
 
 // A blank and a text, where there is any.
@@ -66,5 +54,5 @@ pub(crate) fn note(s: &[u8]) {
 
 pub(crate) fn count(n: u64, k: u64) {
     number(n);
-    phrase(k);
+    phrases::say(k);
 }

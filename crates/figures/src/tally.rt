@@ -119,10 +119,10 @@ fn listed(what: u64, names: &[u8], from: usize, end: usize, limit: usize)
     if end > names.len() {
         return;
     }
-    say::phrase(what);
+    phrases::say(what);
     say::bytes(&names[first..end]);
     if end >= limit {
-        say::phrase(phrases::CUT);
+        phrases::say(phrases::CUT);
     }
 }
 
@@ -131,7 +131,7 @@ pub(crate) fn last_line(t: Tally, names: &[u8; 8192]) {
     say::count(t.right, phrases::RIGHT);
     say::count(t.wrong, phrases::NOT_RIGHT);
     listed(phrases::NAMED_WRONG, names, 0, t.wrong_end, HALF);
-    say::phrase(phrases::IN_PRINT);
+    phrases::say(phrases::IN_PRINT);
     say::count(t.agree, phrases::AGREE);
     say::count(t.differ, phrases::DIFFER);
     say::count(t.idle, phrases::IDLE);

@@ -1,24 +1,21 @@
 // Reading: lines, fields, whole numbers, printed figures and lists, out of bytes. A text that is no
 // number reads as NONE, which is above every limit of the engine, so that a row with one is
 // reported and never run.
-ghost use Prim.Native.Nat.{_≤_, _<_};
+ghost use Prim.Native.Nat.{_≤_};
 ghost use lib.ListN.{length};
 ghost use Rattle.io.specs.Counts.{Counts};
 ghost use Rattle.figures.specs.Bounds.{Within};
 
 pub(crate) const NONE: u64 = 1000000000000000;
 
-// The first place from `from` on that holds either byte, or the end.
-pub(crate) fn find(s: &[u8], from: usize, one: u8, two: u8) -> usize
+// The first place from `from` on that holds a byte, or the end.
+pub(crate) fn find(s: &[u8], from: usize, sought: u8) -> usize
     requires { ⌜ from ≤ length (now s) ⌝ }
     ensures { λ r. ⌜ Within from r (now (s .entry)) ⌝ }
 {
     let mut i = from;
     while i < s.len() {
-        if s[i] == one {
-            return i;
-        }
-        if s[i] == two {
+        if s[i] == sought {
             return i;
         }
         i += 1;
@@ -41,7 +38,7 @@ fn start(s: &[u8], k: u64, separator: u8) -> usize
     let mut at = 0;
     let mut left = k;
     while left > 0 {
-        let e = find(s, at, separator, separator);
+        let e = find(s, at, separator);
         at = past(s, e);
         left -= 1;
     }
@@ -50,29 +47,12 @@ fn start(s: &[u8], k: u64, separator: u8) -> usize
 
 pub(crate) fn piece(s: &[u8], k: u64, separator: u8) -> &[u8] {
     let at = start(s, k, separator);
-    let e = find(s, at, separator, separator);
+    let e = find(s, at, separator);
     &s[at..e]
 }
 
 pub(crate) fn field(line: &[u8], k: u64) -> &[u8] {
     piece(line, k, b',')
-}
-
-// How many fields a row has.
-pub(crate) fn fields(line: &[u8]) -> usize {
-    let mut n: usize = 1;
-    let mut i = 0;
-    while i < line.len() {
-        n += comma(line[i]);
-        i += 1;
-    }
-    n
-}
-
-fn comma(b: u8) -> usize
-    ensures { λ r. ⌜ r ≤ 1 ⌝ }
-{
-    if b == b',' { 1 } else { 0 }
 }
 
 // One digit more behind n. NONE stays NONE.
@@ -108,13 +88,9 @@ pub(crate) fn number(line: &[u8], k: u64) -> u64 {
     whole(field(line, k))
 }
 
-pub(crate) fn has_point(s: &[u8]) -> bool {
-    find(s, 0, b'.', b'.') < s.len()
-}
-
 // The decimals of a figure as a manual prints it.
 fn decimals(s: &[u8]) -> &[u8] {
-    let e = find(s, 0, b'.', b'.');
+    let e = find(s, 0, b'.');
     let at = past(s, e);
     &s[at..]
 }
@@ -125,7 +101,7 @@ pub(crate) fn places(s: &[u8]) -> usize {
 
 // The digits of a printed figure as one whole number.
 pub(crate) fn digits(s: &[u8]) -> u64 {
-    let e = find(s, 0, b'.', b'.');
+    let e = find(s, 0, b'.');
     behind(whole(&s[0..e]), decimals(s))
 }
 
@@ -134,19 +110,7 @@ pub(crate) fn first(s: &[u8]) -> u8 {
     if s.len() == 0 { 0 } else { s[0] }
 }
 
-// A whole number, or a soil group's letter as its number.
-fn item(s: &[u8]) -> u64 {
-    let b = first(s);
-    match b {
-        b'A' => 1,
-        b'B' => 2,
-        b'C' => 3,
-        b'D' => 4,
-        _ => whole(s),
-    }
-}
-
-// The numbers of a list such as 4:B:20;3:B:80, and how many; none where they are too many.
+// The numbers of a list, and how many; none where they are too many.
 pub(crate) fn list(s: &[u8], out: &mut [u64]) -> usize
     ensures { λ r. ⌜ Counts r (now (out .exit)) ⌝ }
 {
@@ -156,8 +120,8 @@ pub(crate) fn list(s: &[u8], out: &mut [u64]) -> usize
         if n >= out.len() {
             return 0;
         }
-        let e = find(s, at, b':', b';');
-        out[n] = item(&s[at..e]);
+        let e = find(s, at, b' ');
+        out[n] = whole(&s[at..e]);
         n += 1;
         at = e + 1;
     }

@@ -3,8 +3,6 @@ use crate::phrases;
 use crate::say;
 use crate::text;
 use crate::text::NONE;
-use crate::text::field;
-use laws::both;
 
 // A row that was not run has no engine verdict; one with no printed figure has no printed one. An
 // unreadable row counts as run and not right.
@@ -16,7 +14,7 @@ pub(crate) struct Verdict {
 }
 
 pub(crate) fn unread() -> Verdict {
-    say::phrase(phrases::UNREADABLE);
+    phrases::say(phrases::UNREADABLE);
     say::byte(b'\n');
     Verdict {
         run: true,
@@ -26,11 +24,10 @@ pub(crate) fn unread() -> Verdict {
     }
 }
 
-pub(crate) fn not_run(what: u64, which: &[u8], note: &[u8]) -> Verdict {
-    say::phrase(phrases::NOT_RUN);
-    say::phrase(what);
-    say::bytes(which);
-    say::phrase(phrases::NOT_IN_BASE);
+pub(crate) fn not_run(what: &[u8], note: &[u8]) -> Verdict {
+    phrases::say(phrases::NOT_RUN);
+    say::bytes(what);
+    phrases::say(phrases::NOT_IN_BASE);
     say::note(note);
     Verdict {
         run: false,
@@ -43,16 +40,16 @@ pub(crate) fn not_run(what: u64, which: &[u8], note: &[u8]) -> Verdict {
 // What stands behind the engine's figure: whether it is the expected one.
 pub(crate) fn expected(right: bool, wanted: &[u8]) {
     if right {
-        say::phrase(phrases::AS_EXPECTED);
+        phrases::say(phrases::AS_EXPECTED);
     } else {
-        say::phrase(phrases::WRONG);
+        phrases::say(phrases::WRONG);
         say::bytes(wanted);
     }
 }
 
 // The end of a row that has no printed figure.
-pub(crate) fn unprinted(right: bool) -> Verdict {
-    say::byte(b'\n');
+pub(crate) fn unprinted(right: bool, note: &[u8]) -> Verdict {
+    say::note(note);
     Verdict {
         run: true,
         right,
@@ -64,9 +61,9 @@ pub(crate) fn unprinted(right: bool) -> Verdict {
 // The end of any other row: whether the engine's figure is the printed one, and why not.
 pub(crate) fn ended(right: bool, agrees: bool, note: &[u8]) -> Verdict {
     if agrees {
-        say::phrase(phrases::YES);
+        phrases::say(phrases::YES);
     } else {
-        say::phrase(phrases::NO);
+        phrases::say(phrases::NO);
     }
     say::note(note);
     Verdict {
@@ -77,32 +74,9 @@ pub(crate) fn ended(right: bool, agrees: bool, note: &[u8]) -> Verdict {
     }
 }
 
-// The rows of most tables begin alike: label, expected, printed, unit, note.
-pub(crate) fn printed(line: &[u8]) {
-    say::phrase(phrases::PRINTED);
-    say::bytes(field(line, 2));
-    say::spaced(field(line, 3));
-}
-
-pub(crate) fn judged(line: &[u8], right: bool, agrees: bool) -> Verdict {
-    expected(right, field(line, 1));
-    printed(line);
-    ended(right, agrees, field(line, 4))
-}
-
-// Such a row has its table's fields, and its two figures and the engine's are numbers.
-pub(crate) fn readable(line: &[u8], fields: usize, got: u64) -> bool {
-    let wanted = text::number(line, 1);
-    let figure = text::digits(field(line, 2));
-    both(
-        both(text::fields(line) == fields, got < NONE),
-        both(wanted < NONE, figure < NONE),
-    )
-}
-
-// n with as many zeros behind it, for figures of up to six decimals.
+// n with as many zeros behind it, for figures of up to three decimals.
 fn tenfold(n: u64, places: usize) -> u64 {
-    if n > 1000000000 {
+    if n > 1000000000000 {
         return NONE;
     }
     match places {
@@ -110,11 +84,18 @@ fn tenfold(n: u64, places: usize) -> u64 {
         1 => n * 10,
         2 => n * 100,
         3 => n * 1000,
-        4 => n * 10000,
-        5 => n * 100000,
-        6 => n * 1000000,
         _ => NONE,
     }
+}
+
+pub(crate) fn product(n: u64, times: u64) -> u64 {
+    if n > 10000000000 {
+        return NONE;
+    }
+    if times > 1000 {
+        return NONE;
+    }
+    n * times
 }
 
 // n / d to the nearest whole, halves up.

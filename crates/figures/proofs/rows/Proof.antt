@@ -6,10 +6,10 @@ use Rattle.figures.proofs.rows.Statement.{statement}
 use Rattle.figures.proofs.rows.Tie as tie
 
 abbrev Inv-loop : tie.InvT-loop
-Inv-loop table word s names₀ t₀ at₀ names t at = at ≤ length s + 1
+Inv-loop word s names₀ t₀ at₀ names t at = at ≤ length s + 1
 
 abbrev μ-loop : tie.MeasureT-loop
-μ-loop table word s names₀ t₀ at₀ names t at = length s + 1 - at
+μ-loop word s names₀ t₀ at₀ names t at = length s + 1 - at
 
 pub rows-spec : {M : Type 1} → statement M
 rows-spec =

@@ -6,14 +6,13 @@ use Rattle.figures.proofs.text.find.Statement.{statement}
 use Rattle.figures.proofs.text.find.Tie as tie
 
 abbrev Inv-loop : tie.InvT-loop
-Inv-loop s from one two i₀ i = (from ≤ i) × (i ≤ length s)
+Inv-loop s from sought i₀ i = (from ≤ i) × (i ≤ length s)
 
 abbrev μ-loop : tie.MeasureT-loop
-μ-loop s from one two i₀ i = length s - i
+μ-loop s from sought i₀ i = length s - i
 
 pub find-spec : {M : Type 1} → statement M
 find-spec =
     tie.close
     (tie.spec Inv-loop μ-loop (λ c. search needs) (λ c. search needs) (λ c. search needs)
-    (λ c. search needs) (λ c. search needs) (λ c. search needs) (λ c. search needs)
-    (λ c. search needs) (λ c. search needs))
+    (λ c. search needs) (λ c. search needs) (λ c. search needs) (λ c. search needs))

@@ -1,0 +1,735 @@
+#include "cases.h"
+
+#define COUNT(a) (sizeof(a) / sizeof *(a))
+
+static const u64 MOST = UINT64_MAX;
+
+/* The first, a middle and the last of 'count' places, from 0. */
+static size_t place(int where, size_t count)
+{
+    return where == 0 ? 0 : where == 1 ? count / 2 : count - 1;
+}
+
+static void take_with(const char *kind, struct site *s, u64 *at, u64 value)
+{
+    u64 was = *at;
+    *at = value;
+    take_case(kind, s);
+    *at = was;
+}
+
+/* ---- Sites to start from */
+
+/* One patch, one segment, 8 rows, one rain step. D 212 lets every Tc from 360 to 36,000 pass; all water is in by row 6
+   where Tc is 360. */
+static void lone_site(struct site *s)
+{
+    *s = (struct site){ .step = 212, .first = 1 };
+    set_rows(s, 8);
+    s->rain.len = 2;
+    s->rain.at[1] = 5000;
+    s->subareas.len = BT_WIDTH;
+    u64 *record = record_at(s, 0);
+    record[BT_PATCH_COUNT] = 1;
+    patch_at(record, 0)[0] = patch_at(record, 0)[1] = 4;
+    patch_at(record, 0)[2] = 100000;
+    set_concentration(record, 360);
+    set_pond(s, 9, 900000000000, 106, 40);
+}
+
+static void set_all_concentrations(struct site *s, u64 seconds)
+{
+    for (size_t i = 0; i < subarea_count(s); i++)
+        set_concentration(record_at(s, i), seconds);
+}
+
+/* ---- Every number of every list in turn */
+
+static void spoil_number_in_turn(const char *kind, struct site *s, u64 *at)
+{
+    u64 was = *at;
+    const u64 values[] = { MOST, was + 4294967296u, 0, was + 1, was - 1, (u64)1 << 63, MOST - 1 };
+    for (size_t i = 0; i < COUNT(values); i++)
+        take_with(kind, s, at, values[i]);
+}
+
+static void spoil_list_in_turn(const char *kind, struct site *s, struct list *l)
+{
+    for (size_t i = 0; i < l->len; i++)
+        spoil_number_in_turn(kind, s, &l->at[i]);
+}
+
+static void every_number(struct site *s)
+{
+    spoil_number_in_turn("the step spoilt", s, &s->step);
+    spoil_number_in_turn("the first row number spoilt", s, &s->first);
+    spoil_list_in_turn("a rain entry spoilt", s, &s->rain);
+    spoil_list_in_turn("a number of a subarea spoilt", s, &s->subareas);
+    spoil_list_in_turn("a number of the pond spoilt", s, &s->pond);
+}
+
+static void every_number_of_three_sites(struct site *s, struct prng *r)
+{
+    plain_site(s, r, 5, 7);
+    every_number(s);
+    *s = (struct site){ 0 };
+    plain_site(s, r, BT_MOST_SUBAREAS, BT_MOST_POND_ROWS);
+    every_number(s);
+    lone_site(s);
+    every_number(s);
+}
+
+/* ---- Limits of records */
+
+struct field {
+    const char *kind;
+    size_t at;
+    u64 least, most;
+};
+
+static void at_limits(const struct field *f, struct site *s, u64 *at)
+{
+    take_with(f->kind, s, at, f->least - 1);
+    take_with(f->kind, s, at, f->least);
+    take_with(f->kind, s, at, f->most);
+    take_with(f->kind, s, at, f->most + 1);
+}
+
+static const struct field COUNTS[] = {
+    { "patch count at its limits", BT_PATCH_COUNT, 1, 8 },
+    { "segment count at its limits", BT_SEGMENT_COUNT, 1, 6 },
+};
+
+static const struct field PATCH[] = {
+    { "cover code at its limits", 0, 1, 22 },
+    { "soil group at its limits", 1, 1, 4 },
+    { "area at its limits", 2, 1, 200000 },
+};
+
+static const struct field SEGMENT[] = {
+    { "segment kind at its limits", 0, 1, 3 },
+    { "length at its limits", 1, 1, 4000 },
+    { "slope or velocity at its limits", 2, 1, 10000 },
+};
+
+static void member_limits(struct site *s, u64 *record)
+{
+    u64 patches = record[BT_PATCH_COUNT], segments = record[BT_SEGMENT_COUNT];
+    for (int member = 0; member < 3; member++)
+        for (size_t f = 0; f < 3; f++) {
+            at_limits(&PATCH[f], s, patch_at(record, place(member, patches)) + PATCH[f].at);
+            at_limits(&SEGMENT[f], s, segment_at(record, place(member, segments)) + SEGMENT[f].at);
+        }
+}
+
+static void record_limits(struct site *s)
+{
+    for (int where = 0; where < 3; where++) {
+        u64 *record = record_at(s, place(where, subarea_count(s)));
+        for (size_t f = 0; f < COUNT(COUNTS); f++)
+            at_limits(&COUNTS[f], s, record + COUNTS[f].at);
+        member_limits(s, record);
+    }
+}
+
+static void record_limits_of_two_sites(struct site *s, struct prng *r)
+{
+    plain_site(s, r, 5, 7);
+    record_limits(s);
+    lone_site(s);
+    record_limits(s);
+}
+
+/* Every kind with lengths and rates at the ends. */
+static void segment_corners(struct site *s)
+{
+    static const u64 lengths[] = { 1, 2, 360, 3999, 4000 }, rates[] = { 1, 2, 100, 9999, 10000 };
+    lone_site(s);
+    u64 *segment = segment_at(record_at(s, 0), 0);
+    for (segment[0] = 1; segment[0] <= 3; segment[0]++)
+        for (size_t i = 0; i < COUNT(lengths); i++)
+            for (size_t j = 0; j < COUNT(rates); j++) {
+                segment[1] = lengths[i];
+                take_with("a segment's length and rate at the ends", s, &segment[2], rates[j]);
+            }
+}
+
+static void segments_at_random(struct site *s, struct prng *r)
+{
+    lone_site(s);
+    set_rows(s, 30);
+    u64 *record = record_at(s, 0), *segment = segment_at(record, 0);
+    record[BT_SEGMENT_COUNT] = 1;
+    for (int i = 0; i < 1500; i++) {
+        segment[0] = between(r, 1, 2);
+        segment[1] = between(r, 1, 4000);
+        segment[2] = between(r, 1, chance(r, 50) ? 100 : 10000);
+        take_case("a shallow segment", s);
+    }
+}
+
+/* ---- Step, first row number */
+
+static void steps(struct site *s, struct prng *r)
+{
+    static const u64 values[] = { 0,    1,    2,    58,   59,   60,         61,         62,  118,
+                                  3597, 3598, 3599, 3600, 3601, 3602, 4294967356, 4294967416, 7200 };
+    plain_site(s, r, 5, 7);
+    for (int slow = 0; slow < 2; slow++) {
+        for (size_t i = 0; i < COUNT(values); i++)
+            take_with("step at its limits", s, &s->step, values[i]);
+        set_all_concentrations(s, 6000); /* Tp 3,600 */
+    }
+}
+
+static void first_numbers(struct site *s, struct prng *r)
+{
+    static const size_t rows[] = { 1, 8, 12, 2000 };
+    plain_site(s, r, 2, 5);
+    for (size_t i = 0; i < COUNT(rows); i++) {
+        u64 m = rows[i], last = BT_LAST_ROW_NUMBER;
+        const u64 values[] = { 0,    1,           last - m,     last - m + 1, last - m + 2, last,     last + 1,
+                               MOST, MOST - m,    MOST - m + 1, MOST - m + 2, MOST - m + 3, MOST / 2, MOST - 1 };
+        set_rows(s, m);
+        s->rain.len = m < 8 ? m + 1 : 9;
+        for (size_t j = 0; j < COUNT(values); j++)
+            take_with("last row number at its limit", s, &s->first, values[j]);
+    }
+}
+
+/* ---- Lengths of lists */
+
+static void row_lengths(struct site *s, struct prng *r)
+{
+    static const size_t lengths[] = { 0, 1, 2, 7, 8, 9, 13, 1999, 2000, 2001, 2002, ROOM };
+    plain_site(s, r, 3, 5);
+    for (size_t i = 0; i < COUNT(lengths); i++) {
+        size_t m = lengths[i], other = m == ROOM ? m - 1 : m + 1;
+        for (int which = 0; which < 8; which++) { /* each list has one length or the other */
+            s->inflow = which & 1 ? other : m;
+            s->outflow = which & 2 ? other : m;
+            s->storage = which & 4 ? other : m;
+            take_case("lengths of the row lists", s);
+        }
+    }
+    set_rows(s, 12);
+    s->storage = 0;
+    take_case("no storage rows", s);
+    s->storage = 2000;
+    take_case("many storage rows", s);
+}
+
+static void rain_lengths(struct site *s, struct prng *r)
+{
+    static const size_t rows[] = { 1, 2, 12, 1999, 2000 };
+    plain_site(s, r, 3, 5);
+    for (size_t t = 9; t < ROOM; t++)
+        s->rain.at[t] = s->rain.at[8];
+    for (size_t i = 0; i < COUNT(rows); i++) {
+        size_t m = rows[i];
+        const size_t lengths[] = { 0, 1, 2, 3, m - 1, m, m + 1, m + 2, m + 3, 2001, 2002, ROOM };
+        set_rows(s, m);
+        for (size_t j = 0; j < COUNT(lengths); j++) {
+            s->rain.len = lengths[j];
+            take_case("length of the rain", s);
+        }
+    }
+}
+
+static void subarea_lengths(struct site *s, struct prng *r)
+{
+    plain_site(s, r, 18, 5);
+    for (size_t records = 0; records <= 18; records++)
+        for (size_t more = 0; more < 5; more++) {
+            static const size_t extra[] = { 0, 1, 22, 42, 43 };
+            s->subareas.len = records * BT_WIDTH + extra[more];
+            if (s->subareas.len <= 18 * BT_WIDTH)
+                take_case("length of the subareas", s);
+        }
+    s->subareas.len = 48 * BT_WIDTH;
+    take_case("length of the subareas", s);
+}
+
+static void pond_lengths(struct site *s, struct prng *r)
+{
+    plain_site(s, r, 2, 66);
+    for (size_t len = 0; len <= 198; len++) {
+        s->pond.len = len;
+        take_case("length of the pond", s);
+    }
+    s->pond.len = ROOM;
+    take_case("length of the pond", s);
+}
+
+/* ---- Rain entries */
+
+static void rain_entries(struct site *s, struct prng *r)
+{
+    plain_site(s, r, 3, 5);
+    for (int where = 0; where < 3; where++) {
+        size_t t = 1 + place(where, s->rain.len - 1);
+        u64 before = s->rain.at[t - 1];
+        const u64 values[] = { before, before - 1, before + 1, 0, 29999, 30000, 30001, 4294967296 + before, MOST };
+        for (size_t i = 0; i < COUNT(values); i++)
+            take_with("a rain entry at its limits", s, &s->rain.at[t], values[i]);
+    }
+    take_with("rain entry 0", s, &s->rain.at[0], 1);
+    u64 was = s->rain.at[6];
+    s->rain.at[6] = 30001;
+    take_with("rain falls, then is too much", s, &s->rain.at[3], 1);
+    s->rain.at[6] = 1;
+    take_with("rain is too much, then falls", s, &s->rain.at[3], 30001);
+    s->rain.at[6] = was;
+    for (size_t t = 1; t < s->rain.len; t++)
+        s->rain.at[t] = 30000;
+    take_case("all the rain at once", s);
+    take_with("all the rain at once, and too much", s, &s->rain.at[8], 30001);
+    for (size_t t = 1; t < s->rain.len; t++)
+        s->rain.at[t] = 0;
+    take_case("no rain", s);
+}
+
+/* ---- Total area */
+
+static void share_area(struct site *s, u64 total)
+{
+    size_t count = subarea_count(s);
+    for (size_t i = 0; i < count; i++) {
+        u64 *record = record_at(s, i), rest = total / count + (i < total % count), each = rest / 8;
+        for (size_t j = 0; j < BT_MOST_PATCHES; j++)
+            patch_at(record, j)[2] = j < 7 ? each : rest - 7 * each;
+    }
+}
+
+static void total_areas(struct site *s, struct prng *r)
+{
+    static const size_t counts[] = { 1, 2, 5, 16 };
+    for (size_t i = 0; i < COUNT(counts); i++) {
+        plain_site(s, r, counts[i], 5);
+        for (u64 total = 199998; total <= 200002; total++) {
+            share_area(s, total);
+            take_case("total area at its limit", s);
+        }
+        share_area(s, 8 * 200000 * counts[i]);
+        take_case("every patch of the greatest area", s);
+    }
+    lone_site(s);
+    for (u64 area = 199999; area <= 200001; area++)
+        take_with("one patch near the greatest area", s, &patch_at(record_at(s, 0), 0)[2], area);
+}
+
+/* ---- Tc and Tp */
+
+/* Tries a Tc in the first, a middle and the last of five subareas. */
+static void try_concentration(const char *kind, struct site *s, u64 step, u64 seconds, u64 others)
+{
+    s->step = step;
+    for (int where = 0; where < 3; where++) {
+        set_all_concentrations(s, others);
+        set_concentration(record_at(s, place(where, 5)), seconds);
+        take_case(kind, s);
+    }
+    set_all_concentrations(s, seconds);
+    take_case(kind, s);
+}
+
+static void concentrations(struct site *s, struct prng *r)
+{
+    static const u64 seconds[] = { 1, 358, 359, 360, 361, 35999, 36000, 36001, 36002, 37000 };
+    plain_site(s, r, 5, 7);
+    for (size_t i = 0; i < COUNT(seconds); i++)
+        try_concentration("Tc at its limits", s, 212, seconds[i], 1000);
+}
+
+/* The least Tc whose Tp is at least this. */
+static u64 concentration_of(u64 peak)
+{
+    return (5 * peak + 2) / 3;
+}
+
+static void peaks(struct site *s, struct prng *r)
+{
+    static const u64 steps[] = { 60, 62, 120, 208, 210, 212, 214, 216, 218, 220, 300, 1800, 3598, 3600 };
+    plain_site(s, r, 5, 7);
+    for (size_t i = 0; i < COUNT(steps); i++) {
+        u64 step = steps[i], most = 512 * step / 5, others = concentration_of(3 * step < 220 ? 220 : 3 * step);
+        for (u64 peak = step - 2; peak <= step + 2; peak++)
+            try_concentration("D beside Tp", s, step, concentration_of(peak), others);
+        for (u64 peak = most - 1; peak <= most + 2 && peak <= 21600; peak++)
+            try_concentration("5 Tp beside 512 D", s, step, concentration_of(peak), others);
+    }
+}
+
+static void weights_at_random(struct site *s, struct prng *r)
+{
+    lone_site(s);
+    s->rain.at[1] = 30000;
+    patch_at(record_at(s, 0), 0)[2] = 200000;
+    for (int i = 0; i < 400; i++) {
+        s->step = 2 * between(r, 30, chance(r, 50) ? 150 : 1800);
+        u64 least = s->step < 216 ? 216 : s->step, most = 512 * s->step / 5;
+        u64 peak = between(r, least, most < 21600 ? most : 21600);
+        set_concentration(record_at(s, 0), concentration_of(peak));
+        set_rows(s, 5 * peak / s->step + 2);
+        take_case("every weight in the rows", s);
+    }
+}
+
+/* ---- Cover, means, drizzle */
+
+static void set_cover(struct site *s, size_t i, u64 code)
+{
+    u64 *patch = patch_at(record_at(s, 0), i);
+    patch[0] = code / 4 + 1;
+    patch[1] = code % 4 + 1;
+    patch[2] = 100000;
+}
+
+/* Rain about the greatest that yields nothing, for every cover and soil. */
+static void drizzle(struct site *s, struct prng *r)
+{
+    lone_site(s);
+    for (u64 code = 0; code < 88; code++) {
+        set_cover(s, 0, code);
+        u64 curve = reference_curve(record_at(s, 0)), dry = (200000 - 2000 * curve) / curve;
+        const u64 rains[] = { 1, dry / 2, dry - 1, dry, dry + 1, dry + 2, dry + 20, between(r, 1, 30000), 30000 };
+        for (size_t i = 0; i < COUNT(rains); i++)
+            take_with("drizzle", s, &s->rain.at[1], rains[i]);
+    }
+}
+
+/* Equal areas of any two: the mean may end on a half. */
+static void means(struct site *s)
+{
+    lone_site(s);
+    record_at(s, 0)[BT_PATCH_COUNT] = 2;
+    for (u64 one = 0; one < 88; one++)
+        for (u64 two = 0; two <= one; two++) {
+            set_cover(s, 0, one);
+            set_cover(s, 1, two);
+            take_case("the mean of two covers", s);
+        }
+}
+
+static void runoffs_at_random(struct site *s, struct prng *r)
+{
+    lone_site(s);
+    patch_at(record_at(s, 0), 0)[2] = 200000;
+    for (int i = 0; i < 2000; i++) {
+        patch_at(record_at(s, 0), 0)[0] = between(r, 1, 22);
+        patch_at(record_at(s, 0), 0)[1] = between(r, 1, 4);
+        take_with("one rain, one cover", s, &s->rain.at[1], between(r, 1, 30000));
+    }
+}
+
+/* ---- The pond */
+
+static void pond_columns(struct site *s, size_t i)
+{
+    static const u64 most[] = { 1000000, 1000000000000, 10000000 };
+    for (size_t column = 0; column < 3; column++) {
+        u64 *at = pond_row_at(s, i) + column, before = i == 0 ? 0 : at[-3];
+        const u64 values[] = { 0, 1, before, before - 1, before + 1, most[column] - 1, most[column], most[column] + 1 };
+        for (size_t j = 0; j < COUNT(values); j++)
+            take_with("a pond row at its limits", s, at, values[j]);
+    }
+}
+
+static void pond_limits(struct site *s, struct prng *r)
+{
+    static const size_t rows[] = { 2, 7, 64 };
+    for (size_t i = 0; i < COUNT(rows); i++) {
+        plain_site(s, r, 2, rows[i]);
+        pond_columns(s, 0);
+        for (int where = 0; where < 3; where++)
+            pond_columns(s, 1 + place(where, rows[i] - 1));
+    }
+}
+
+/* All three columns at the top, and one past it. */
+static void greatest_pond(struct site *s, struct prng *r)
+{
+    plain_site(s, r, 2, 2);
+    u64 *last = pond_row_at(s, 1);
+    last[0] = 1000000;
+    last[1] = 1000000000000;
+    last[2] = 10000000;
+    pond_row_at(s, 0)[0] = 999999;
+    take_case("the greatest pond", s);
+    for (size_t column = 0; column < 3; column++)
+        take_with("past the greatest pond", s, &last[column], last[column] + 1);
+    take_with("the first stage as high as the last", s, &pond_row_at(s, 0)[0], 1000000);
+    take_with("the first stage too high", s, &pond_row_at(s, 0)[0], 1000001);
+    take_with("the first storage not 0", s, &pond_row_at(s, 0)[1], 1);
+    take_with("the first discharge not 0", s, &pond_row_at(s, 0)[2], 1);
+}
+
+/* Storage one less than h times discharge, the same, one more. */
+static void pond_storages(struct site *s, struct prng *r)
+{
+    static const u64 steps[] = { 60, 120, 300 };
+    for (size_t i = 0; i < COUNT(steps); i++)
+        for (int where = 0; where < 3; where++)
+            for (u64 more = 0; more < 3; more++) {
+                plain_site(s, r, 2, 7);
+                s->step = steps[i];
+                size_t row = 1 + place(where, 6);
+                u64 discharge = pond_row_at(s, row)[1] / (s->step / 2);
+                for (size_t j = row; j < 7; j++)
+                    pond_row_at(s, j)[2] = discharge;
+                pond_row_at(s, row)[1] = s->step / 2 * discharge + more - 1;
+                take_case("storage beside h times discharge", s);
+            }
+}
+
+/* ---- Refusal 14: the pond is cut off at, and just below, the X of a row */
+
+static void storm_site(struct site *s, struct prng *r)
+{
+    plain_site(s, r, 3, 3);
+    set_rows(s, 14);
+    for (size_t t = 1; t <= 8; t++)
+        s->rain.at[t] = 3000 * t + below(r, 1000);
+}
+
+static void rows_of(const struct site *s, u64 *inflow, u64 *outflow, u64 *storage)
+{
+    u64 answer[BT_ANSWER_LENGTH];
+    reference_study(s->step, s->first, s->rain.at, s->rain.len, s->subareas.at, s->subareas.len, s->pond.at,
+                    s->pond.len, inflow, s->inflow, outflow, s->outflow, storage, s->storage, answer);
+}
+
+/* Above its middle row the pond has one discharge, so that cutting it short changes no row below the cut. */
+static void cut_pond(struct site *s, u64 discharge)
+{
+    u64 inflow[ROOM], outflow[ROOM], storage[ROOM], half = s->step / 2;
+    u64 *last = pond_row_at(s, 2), *middle = pond_row_at(s, 1);
+    middle[1] = half * discharge + 1;
+    middle[2] = last[2] = discharge;
+    last[1] = 900000000000;
+    rows_of(s, inflow, outflow, storage);
+    for (size_t k = 0; k < s->inflow; k++)
+        for (u64 less = 0; less < 3; less++) {
+            u64 cut = storage[k] + half * outflow[k] - half * discharge - less;
+            if (cut > middle[1] && cut <= 1000000000000)
+                take_with("the pond cut off at a row", s, &last[1], cut);
+        }
+}
+
+static void full_ponds(struct site *s, struct prng *r)
+{
+    for (int i = 0; i < 8; i++) {
+        storm_site(s, r);
+        cut_pond(s, 0);
+        cut_pond(s, between(r, 1, 1000));
+        cut_pond(s, between(r, 1, 1000000));
+    }
+}
+
+/* ---- Outflow just below a whole number, and on it */
+
+/* The least discharge above q, if any below 2 q, for which q divides discharge x + 1. */
+static u64 discharge_for(u64 x, u64 q)
+{
+    u64 rest = (x % q + 1) % q; /* of (q + 1) x + 1, as of x + 1 */
+    for (u64 discharge = q + 1; discharge < 2 * q; discharge++) {
+        if (rest == 0)
+            return discharge;
+        rest = (rest + x % q) % q;
+    }
+    return 0;
+}
+
+/* Two pond rows. Row 1's X is its inflow x, and its outflow discharge x / X_2 lies 1 / X_2 below q. */
+static void close_lines(struct site *s, struct prng *r)
+{
+    u64 inflow[ROOM], outflow[ROOM], storage[ROOM], *last = pond_row_at(s, 1);
+    for (int i = 0; i < 60; i++) {
+        lone_site(s);
+        patch_at(record_at(s, 0), 0)[2] = between(r, 100000, 200000);
+        s->rain.at[1] = between(r, 20000, 30000);
+        rows_of(s, inflow, outflow, storage);
+        u64 x = inflow[0], q = between(r, 500000, 4000000), half = s->step / 2;
+        s->pond.len = 6;
+        last[2] = discharge_for(x, q);
+        last[1] = (last[2] * x + 1) / q - half * last[2];
+        for (u64 more = 0; more < 3; more++)
+            take_with("outflow beside a whole number", s, &last[1], last[1] + more - 1);
+    }
+}
+
+/* ---- Two faults at once */
+
+static void fault_rows(struct site *s, int where)
+{
+    if (where == 0)
+        s->inflow++;
+    else if (where == 1)
+        s->outflow--;
+    else
+        s->storage = 0;
+}
+
+static void fault_step(struct site *s, int where)
+{
+    s->step = where == 0 ? 58 : where == 1 ? s->step + 1 : 3602;
+}
+
+static void fault_rain(struct site *s, int where)
+{
+    size_t t = place(where, s->rain.len);
+    s->rain.at[t] = t == 0 ? 1 : where == 1 ? 30001 : s->rain.at[t - 1] - 1;
+}
+
+static void fault_last_number(struct site *s, int where)
+{
+    s->first = where == 0 ? BT_LAST_ROW_NUMBER : where == 1 ? MOST : (u64)1 << 63;
+}
+
+static void fault_count(struct site *s, int where)
+{
+    s->subareas.len = where == 0 ? 0 : where == 1 ? s->subareas.len + 1 : 17 * BT_WIDTH;
+}
+
+static void fault_patch(struct site *s, int where)
+{
+    u64 *record = record_at(s, place(where, 5));
+    if (where == 0)
+        record[BT_PATCH_COUNT] = 9;
+    else
+        patch_at(record, 7)[where] = where == 1 ? 5 : 200001;
+}
+
+static void fault_segment(struct site *s, int where)
+{
+    u64 *record = record_at(s, place(where, 5));
+    if (where == 0)
+        record[BT_SEGMENT_COUNT] = 0;
+    else
+        segment_at(record, 0)[where] = where == 1 ? 4001 : 10001;
+}
+
+static void fault_area(struct site *s, int where)
+{
+    patch_at(record_at(s, place(where, 5)), 3)[2] = 200000;
+}
+
+static void fault_concentration(struct site *s, int where)
+{
+    set_concentration(record_at(s, place(where, 5)), 36001);
+}
+
+static void fault_step_above_peak(struct site *s, int where)
+{
+    s->step = 300;
+    set_concentration(record_at(s, place(where, 5)), 360);
+}
+
+static void fault_weights(struct site *s, int where)
+{
+    s->step = 120;
+    set_concentration(record_at(s, place(where, 5)), 21000);
+}
+
+static void fault_pond(struct site *s, int where)
+{
+    u64 *row = pond_row_at(s, place(where, 7));
+    if (where == 0)
+        row[1] = 1;
+    else if (where == 1)
+        row[0] = row[-3];
+    else
+        row[2] = 10000001;
+}
+
+static void fault_pond_storage(struct site *s, int where)
+{
+    size_t row = 1 + place(where, 6);
+    u64 discharge = pond_row_at(s, row)[1] / (s->step / 2) + 1;
+    for (size_t i = row; i < 7; i++)
+        if (pond_row_at(s, i)[2] < discharge)
+            pond_row_at(s, i)[2] = discharge;
+}
+
+static void fault_full(struct site *s, int where)
+{
+    for (size_t i = 0; i < 7; i++) {
+        pond_row_at(s, i)[1] = i * (where == 0 ? 1 : where == 1 ? 1000 : 30000);
+        pond_row_at(s, i)[2] = 0;
+    }
+}
+
+static void (*const FAULTS[])(struct site *, int) = {
+    fault_rows,          fault_step,            fault_rain,    fault_last_number, fault_count,
+    fault_patch,         fault_segment,         fault_area,    fault_concentration, fault_step_above_peak,
+    fault_weights,       fault_pond,            fault_pond_storage, fault_full,
+};
+
+/* The later number's fault goes in first, since some faults make room for others. Each takes each place. */
+static void two_faults(struct site *s, struct prng *r)
+{
+    for (size_t one = 0; one < COUNT(FAULTS); one++)
+        for (size_t two = one; two < COUNT(FAULTS); two++)
+            for (int where = 0; where < 9; where++) {
+                *s = (struct site){ 0 };
+                plain_site(s, r, 5, 7);
+                FAULTS[two](s, where / 3);
+                FAULTS[one](s, where % 3);
+                take_case("two faults", s);
+            }
+}
+
+static void every_fault_from_one_on(struct site *s, struct prng *r)
+{
+    for (size_t one = 0; one < COUNT(FAULTS); one++)
+        for (int where = 0; where < 3; where++) {
+            *s = (struct site){ 0 };
+            plain_site(s, r, 5, 7);
+            for (size_t other = COUNT(FAULTS); other-- > one;)
+                FAULTS[other](s, where);
+            take_case("every fault from one number on", s);
+        }
+}
+
+/* ---- Few rows and many */
+
+static void row_counts(struct site *s, struct prng *r)
+{
+    static const size_t rows[] = { 1, 2, 3, 1999, 2000 };
+    for (size_t i = 0; i < COUNT(rows); i++) {
+        size_t m = rows[i];
+        const size_t rain_steps[] = { 1, (m + 1) / 2, m - (m > 1), m };
+        for (size_t j = 0; j < COUNT(rain_steps); j++) {
+            size_t n = rain_steps[j];
+            plain_site(s, r, 2, 9);
+            set_rows(s, m);
+            s->rain.len = n + 1;
+            for (size_t t = 1; t <= n; t++)
+                s->rain.at[t] = 30000 * t / n;
+            take_case("few rows and many", s);
+        }
+    }
+}
+
+/* ---- All of them */
+
+void chosen_cases(u64 seed)
+{
+    static struct site s;
+    static void (*const plain[])(struct site *) = { segment_corners, means };
+    static void (*const random[])(struct site *, struct prng *) = {
+        every_number_of_three_sites, record_limits_of_two_sites, segments_at_random, steps, first_numbers,
+        row_lengths, rain_lengths, subarea_lengths, pond_lengths, rain_entries, total_areas, concentrations, peaks,
+        weights_at_random, drizzle, runoffs_at_random, pond_limits, greatest_pond, pond_storages, full_ponds,
+        close_lines, two_faults, every_fault_from_one_on, row_counts,
+    };
+    for (size_t i = 0; i < COUNT(plain); i++) {
+        s = (struct site){ 0 };
+        plain[i](&s);
+    }
+    for (size_t i = 0; i < COUNT(random); i++) {
+        struct prng r = prng_of(seed, i);
+        s = (struct site){ 0 };
+        random[i](&s, &r);
+    }
+}

@@ -1,0 +1,98 @@
+#include "figures.h"
+
+#include <inttypes.h>
+#include <stdio.h>
+
+#include "site.h"
+
+static int tried, wrong;
+
+static void figure(const char *name, u64 got, u64 expected)
+{
+    tried++;
+    if (got == expected)
+        return;
+    wrong++;
+    printf("reference: %s is %" PRIu64 ", document 01 has %" PRIu64 "\n", name, got, expected);
+}
+
+static void leaves(void)
+{
+    u64 record[BT_WIDTH] = { 2, 3, 2, 50, 3, 3, 50 };
+    figure("C 80, p 3000", reference_runoff(80, 3000), 1250000);
+    figure("C 80, p 500", reference_runoff(80, 500), 0);
+    figure("C 80, p 520", reference_runoff(80, 520), 158);
+    figure("C 98, p 3000", reference_runoff(98, 3000), 2768268);
+    figure("C 40, p 8000", reference_runoff(40, 8000), 1250000);
+    figure("C of equal areas of 61 and 74", reference_curve(record), 68);
+    figure("1,000 ft at slope 100, unpaved", reference_segment(1, 1000, 100), 619);
+    figure("1,000 ft at slope 100, paved", reference_segment(2, 1000, 100), 491);
+    figure("Tp 216, D 60: weight 1", reference_weight(216, 60, 1), 170000);
+    figure("Tp 216, D 60: weight 18", reference_weight(216, 60, 18), 0);
+    figure("100 hundredths, depth 1,000,000", reference_volume(100, 1000000), 3630000);
+}
+
+static const u64 POND[] = { 0, 0, 0, 1000, 9000, 100 };
+
+static void pond_rows_of_three(void)
+{
+    static const u64 inflow[] = { 6000, 0, 1 }, outflow[] = { 50, 25, 12 }, storage[] = { 4500, 2250, 1141 };
+    struct state state = { 0, 0, 0 };
+    u64 released = 0, old = 0;
+    for (int k = 0; k < 3; k++) {
+        figure("a pond row fits", (u64)reference_step(POND, 2, 30, inflow[k], &state), 1);
+        figure("its outflow", state.outflow, outflow[k]);
+        figure("its storage", state.storage, storage[k]);
+        released += 30 * (old + state.outflow);
+        old = state.outflow;
+    }
+    figure("released", released, 4860);
+    figure("released and stored", released + state.storage, 6001);
+}
+
+static void pond_ends(void)
+{
+    struct state empty = { 0, 0, 0 }, other = empty;
+    figure("inflow 12,000 fits", (u64)reference_step(POND, 2, 30, 12000, &empty), 1);
+    figure("inflow 12,001 fits", (u64)reference_step(POND, 2, 30, 12001, &other), 0);
+}
+
+/* A little rain on one roof: only the limit that a figure speaks of can be passed. */
+static u64 refusal_of(u64 step, u64 concentration, u64 discharge, u64 first)
+{
+    const u64 rain[] = { 0, 2 }, pond[] = { 0, 0, 0, 1000, 9000, discharge };
+    u64 record[BT_WIDTH] = { 1, 4, 1, 1 }, inflow, outflow, storage, answer[BT_ANSWER_LENGTH];
+    set_concentration(record, concentration);
+    return reference_study(step, first, rain, 2, record, BT_WIDTH, pond, 6, &inflow, 1, &outflow, 1, &storage, 1,
+                           answer);
+}
+
+static void limits(void)
+{
+    figure("Tp of Tc 360", reference_peak(360), 216);
+    figure("D 216 at Tp 216", refusal_of(216, 360, 0, 1), 0);
+    figure("D 218 at Tp 216", refusal_of(218, 360, 0, 1), 10);
+    figure("Tp of Tc 10,240", reference_peak(10240), 6144);
+    figure("D 60 at Tp 6,144", refusal_of(60, 10240, 0, 1), 0);
+    figure("Tp of Tc 10,242", reference_peak(10242), 6145);
+    figure("D 60 at Tp 6,145", refusal_of(60, 10242, 0, 1), 11);
+    figure("discharge 300", refusal_of(60, 360, 300, 1), 0);
+    figure("discharge 301", refusal_of(60, 360, 301, 1), 13);
+    figure("last row number 9007199254740991", refusal_of(60, 360, 0, 9007199254740991), 0);
+    figure("last row number 9007199254740992", refusal_of(60, 360, 0, 9007199254740992), 4);
+}
+
+int figures_wrong(void)
+{
+    tried = wrong = 0;
+    leaves();
+    pond_rows_of_three();
+    pond_ends();
+    limits();
+    return wrong;
+}
+
+int figures_tried(void)
+{
+    return tried;
+}

@@ -1,0 +1,9 @@
+/* The reference held to document 01's 'Figures to check by'. */
+#ifndef FIGURES_H
+#define FIGURES_H
+
+/* Prints each figure that does not hold; gives how many. */
+int figures_wrong(void);
+int figures_tried(void);
+
+#endif

@@ -1,0 +1,40 @@
+/*
+ * Document 01 (docs/SCOPE.md) once more, in plain C: a study worked from the text of the rules and from nothing of the
+ * engine. Slow and plain on purpose. Whole numbers only; sums and products are 128 bits wide.
+ */
+#ifndef REFERENCE_H
+#define REFERENCE_H
+
+#include <stddef.h>
+#include <stdint.h>
+
+typedef uint64_t u64;
+__extension__ typedef __int128 wide;
+
+struct refusal {
+    u64 number, place;
+};
+
+/* The pond's standing after a row. */
+struct state {
+    u64 storage, outflow, stage;
+};
+
+/* What document 01 names, one function each. They ask that their numbers are within its limits. */
+u64 reference_curve(const u64 *record);                     /* C of a subarea's patches */
+u64 reference_runoff(u64 curve, u64 rain);                  /* millionths of an inch */
+u64 reference_segment(u64 kind, u64 length, u64 rate);      /* seconds */
+u64 reference_concentration(const u64 *record);             /* Tc */
+u64 reference_peak(u64 concentration);                      /* Tp */
+u64 reference_weight(u64 peak, u64 step, u64 j);            /* weight j */
+u64 reference_volume(u64 area, u64 depth);                  /* thousandths of a cubic foot */
+
+/* One pond row step. Gives 0, and leaves the state be, where X is above the last X_i. */
+int reference_step(const u64 *pond, size_t rows, u64 half, u64 inflow, struct state *state);
+
+/* A whole study, with the parameters and the answer of bt_study. */
+u64 reference_study(u64 step, u64 first, const u64 *rain, size_t rain_len, const u64 *subareas, size_t subareas_len,
+                    const u64 *pond, size_t pond_len, u64 *inflow, size_t inflow_len, u64 *outflow, size_t outflow_len,
+                    u64 *storage, size_t storage_len, u64 *answer);
+
+#endif

@@ -1,0 +1,402 @@
+#include "site.h"
+
+#include <string.h>
+
+/* ---- Random numbers */
+
+u64 any(struct prng *r)
+{
+    r->state += 0x9e3779b97f4a7c15u;
+    u64 z = r->state;
+    z = (z ^ z >> 30) * 0xbf58476d1ce4e5b9u;
+    z = (z ^ z >> 27) * 0x94d049bb133111ebu;
+    return z ^ z >> 31;
+}
+
+struct prng prng_of(u64 seed, u64 number)
+{
+    struct prng a = { seed }, b = { number };
+    return (struct prng){ any(&a) ^ any(&b) * 3 };
+}
+
+u64 below(struct prng *r, u64 n)
+{
+    return any(r) % n;
+}
+
+u64 between(struct prng *r, u64 least, u64 most)
+{
+    return least + below(r, most - least + 1);
+}
+
+bool chance(struct prng *r, u64 percent)
+{
+    return below(r, 100) < percent;
+}
+
+/* ---- Parts */
+
+size_t subarea_count(const struct site *s)
+{
+    return s->subareas.len / BT_WIDTH;
+}
+
+size_t pond_rows(const struct site *s)
+{
+    return s->pond.len / BT_POND_WIDTH;
+}
+
+u64 *record_at(struct site *s, size_t i)
+{
+    return s->subareas.at + BT_WIDTH * i;
+}
+
+u64 *patch_at(u64 *record, size_t i)
+{
+    return record + BT_PATCHES + BT_PATCH_WIDTH * i;
+}
+
+u64 *segment_at(u64 *record, size_t i)
+{
+    return record + BT_SEGMENTS + BT_SEGMENT_WIDTH * i;
+}
+
+u64 *pond_row_at(struct site *s, size_t i)
+{
+    return s->pond.at + BT_POND_WIDTH * i;
+}
+
+void set_rows(struct site *s, size_t m)
+{
+    s->inflow = s->outflow = s->storage = m;
+}
+
+static void set_triple(u64 *at, u64 a, u64 b, u64 c)
+{
+    at[0] = a;
+    at[1] = b;
+    at[2] = c;
+}
+
+/* Tens of seconds at a tenth of a foot a second, then single ones at one foot a second. */
+void set_concentration(u64 *record, u64 seconds)
+{
+    u64 count = 0;
+    if (seconds >= 10)
+        set_triple(segment_at(record, count++), 3, seconds / 10, 10);
+    if (seconds % 10 != 0)
+        set_triple(segment_at(record, count++), 3, seconds % 10, 100);
+    record[BT_SEGMENT_COUNT] = count;
+}
+
+/* Storage grows faster than stage; discharge is 'percent' of the most that refusal 13 allows. */
+void set_pond(struct site *s, size_t rows, u64 capacity, u64 half, u64 percent)
+{
+    s->pond.len = BT_POND_WIDTH * rows;
+    for (size_t i = 0; i < rows; i++) {
+        u64 storage = i + capacity / ((rows - 1) * (rows - 1)) * i * i;
+        u64 discharge = storage / half * percent / 100;
+        set_triple(pond_row_at(s, i), 250 * i, storage, discharge < 10000000 ? discharge : 10000000);
+    }
+}
+
+/* ---- Subareas */
+
+/* Numbers past the counts hold anything. */
+static void litter(u64 *record, struct prng *r)
+{
+    bool clean = chance(r, 30);
+    for (size_t i = 0; i < BT_WIDTH; i++)
+        record[i] = clean ? 0 : chance(r, 30) ? UINT64_MAX : any(r) >> below(r, 64);
+}
+
+/* Patches of an area together at most 'most'; often some of one size, so that means fall on halves. */
+static void random_patches(u64 *record, struct prng *r, size_t count, u64 most)
+{
+    u64 each = most / count, same = between(r, 1, each);
+    bool alike = chance(r, 40);
+    record[BT_PATCH_COUNT] = count;
+    for (size_t i = 0; i < count; i++)
+        set_triple(patch_at(record, i), between(r, 1, 22), between(r, 1, 4), alike ? same : between(r, 1, each));
+}
+
+static void random_segment(u64 *at, struct prng *r)
+{
+    u64 kind = between(r, 1, 3);
+    u64 length = chance(r, 80) ? between(r, 5, 1500) : between(r, 1, 4000);
+    u64 rate = chance(r, 80) ? between(r, 20, 900) : between(r, 1, 10000);
+    set_triple(at, kind, length, rate);
+}
+
+/* Segments whose times together lie between the two bounds, or near them. */
+static void random_path(u64 *record, struct prng *r, u64 least, u64 most)
+{
+    u64 total = 0, count = 0, tries = between(r, 1, 5);
+    while (tries-- > 0) {
+        u64 *at = segment_at(record, count);
+        random_segment(at, r);
+        u64 time = reference_segment(at[0], at[1], at[2]);
+        if (total + time > most)
+            continue;
+        total += time;
+        count++;
+    }
+    if (count == 0 || total < least) {
+        u64 rest = between(r, total < least ? least - total : 0, most - total);
+        if (rest < 4000)
+            set_triple(segment_at(record, count++), 3, rest + 1, 100);
+        else
+            set_triple(segment_at(record, count++), 3, rest / 10, 10);
+    }
+    record[BT_SEGMENT_COUNT] = count;
+}
+
+/* Tc such that D <= Tp, and 5 Tp <= 512 D. */
+static u64 least_concentration(u64 step)
+{
+    return step <= 216 ? 0 : (5 * step + 2) / 3 + 10;
+}
+
+static u64 most_concentration(u64 step)
+{
+    u64 most = 170 * step;
+    return most < 36000 ? most : 36000;
+}
+
+static void random_subareas(struct site *s, struct prng *r, size_t count, u64 most)
+{
+    s->subareas.len = BT_WIDTH * count;
+    for (size_t i = 0; i < count; i++) {
+        u64 *record = record_at(s, i);
+        litter(record, r);
+        random_patches(record, r, chance(r, 50) ? between(r, 1, 3) : between(r, 1, BT_MOST_PATCHES), most / count);
+        random_path(record, r, least_concentration(s->step), most_concentration(s->step));
+    }
+}
+
+/* ---- Rain and pond */
+
+/* n steps that reach 'total'; some dry, some heavy. */
+static void random_rain(struct site *s, struct prng *r, size_t n, u64 total)
+{
+    u64 sum = 0, dry = below(r, 80);
+    s->rain.len = n + 1;
+    s->rain.at[0] = 0;
+    for (size_t t = 1; t <= n; t++)
+        s->rain.at[t] = sum += chance(r, dry) ? 0 : chance(r, 10) ? below(r, 2000) : below(r, 100);
+    for (size_t t = 1; t <= n; t++)
+        s->rain.at[t] = sum == 0 ? total : s->rain.at[t] * total / sum;
+}
+
+static u64 total_area(struct site *s)
+{
+    u64 total = 0;
+    for (size_t i = 0; i < subarea_count(s); i++)
+        for (u64 j = 0; j < record_at(s, i)[BT_PATCH_COUNT] && j < BT_MOST_PATCHES; j++)
+            total += patch_at(record_at(s, i), j)[2];
+    return total;
+}
+
+/* The volume of all the rain on all the area: more than can ever run in. */
+static u64 all_water(struct site *s)
+{
+    return reference_volume(total_area(s), 1000 * s->rain.at[s->rain.len - 1]);
+}
+
+/* Uneven rows, up to a capacity near 'water'. */
+static void random_pond(struct site *s, struct prng *r, size_t rows, u64 water)
+{
+    u64 half = s->step / 2, percent = chance(r, 15) ? 0 : between(r, 1, 100);
+    u64 stage = chance(r, 50) ? 0 : below(r, 5000), storage = 0, discharge = 0;
+    s->pond.len = BT_POND_WIDTH * rows;
+    set_triple(pond_row_at(s, 0), stage, 0, 0);
+    for (size_t i = 1; i < rows; i++) {
+        stage += between(r, 1, 2000);
+        storage += between(r, 1, 2 * water / rows + 2);
+        u64 wish = storage / half * percent / 100 * between(r, 50, 100) / 100;
+        if (wish > discharge)
+            discharge = wish < 10000000 ? wish : 10000000;
+        set_triple(pond_row_at(s, i), stage, storage, discharge);
+    }
+}
+
+/* ---- Whole sites */
+
+void plain_site(struct site *s, struct prng *r, size_t count, size_t rows)
+{
+    s->step = chance(r, 50) ? 120 : 300;
+    s->first = between(r, 1, 1000);
+    set_rows(s, 12);
+    s->rain.len = 9;
+    for (size_t t = 1; t <= 8; t++)
+        s->rain.at[t] = 500 * t + below(r, 400); /* rising, so that each entry can be too low */
+    s->subareas.len = BT_WIDTH * count;
+    for (size_t i = 0; i < count; i++) {
+        random_patches(record_at(s, i), r, BT_MOST_PATCHES, 100000 / count);
+        for (size_t j = 0; j < BT_MOST_SEGMENTS; j++)
+            set_triple(segment_at(record_at(s, i), j), between(r, 1, 3), between(r, 600, 1000), between(r, 150, 300));
+        record_at(s, i)[BT_SEGMENT_COUNT] = BT_MOST_SEGMENTS;
+    }
+    set_pond(s, rows, all_water(s) * 2, 1800, 100);
+}
+
+static u64 likely_step(struct prng *r)
+{
+    static const u64 usual[] = { 60, 120, 180, 300, 360, 600, 900, 1800, 3600 };
+    return chance(r, 70) ? usual[below(r, 9)] : 2 * between(r, 30, 1800);
+}
+
+static size_t likely_count(struct prng *r)
+{
+    return chance(r, 75) ? between(r, 1, 4) : between(r, 1, BT_MOST_SUBAREAS);
+}
+
+void likely_site(struct site *s, struct prng *r)
+{
+    size_t n = chance(r, 90) ? between(r, 1, 40) : between(r, 1, 200);
+    s->step = likely_step(r);
+    s->first = chance(r, 90) ? below(r, 1000) : BT_LAST_ROW_NUMBER - 1000 + below(r, 1000);
+    set_rows(s, n + (chance(r, 80) ? below(r, 60) : 0));
+    random_rain(s, r, n, chance(r, 90) ? between(r, 100, 9000) : between(r, 0, 30000));
+    random_subareas(s, r, likely_count(r), chance(r, 70) ? between(r, 2000, 30000) : 200000);
+    random_pond(s, r, chance(r, 80) ? between(r, 2, 12) : between(r, 2, 64), all_water(s) * between(r, 2, 130) / 100);
+}
+
+void large_site(struct site *s, struct prng *r)
+{
+    s->step = 60;
+    s->first = below(r, 1000000);
+    set_rows(s, BT_MOST_ROWS);
+    random_rain(s, r, chance(r, 50) ? BT_MOST_ROWS : between(r, 200, BT_MOST_ROWS), between(r, 2000, 30000));
+    random_subareas(s, r, BT_MOST_SUBAREAS, 200000);
+    for (size_t i = 0; i < BT_MOST_SUBAREAS; i++)
+        set_concentration(record_at(s, i), between(r, 10240, 10241)); /* Tp 6,144 */
+    random_pond(s, r, BT_MOST_POND_ROWS, all_water(s) * between(r, 20, 130) / 100);
+}
+
+/* ---- Hostile sites */
+
+static u64 nasty(struct prng *r, u64 was)
+{
+    static const u64 edges[] = {
+        0, 1, 2, 3, 4, 6, 7, 8, 9, 16, 22, 60, 360, 512, 2000, 3600, 4000, 10000, 30000, 36000, 200000, 1000000,
+        10000000, 4294967296, 217800000000, 1000000000000, 9007199254740991, 9223372036854775807, UINT64_MAX,
+    };
+    switch (below(r, 6)) {
+    case 0: return was + 1;
+    case 1: return was - 1;
+    case 2: return any(r) >> below(r, 64);
+    case 3: return was + (between(r, 1, 3) << 32);
+    default: return edges[below(r, sizeof edges / sizeof *edges)] + below(r, 3) - 1;
+    }
+}
+
+static void spoil_number(struct list *l, struct prng *r)
+{
+    if (l->len == 0)
+        return;
+    u64 *at = &l->at[below(r, l->len)];
+    *at = nasty(r, *at);
+}
+
+/* One of the counts, or a patch or a segment that is read. */
+static void spoil_record(struct site *s, struct prng *r)
+{
+    if (subarea_count(s) == 0)
+        return;
+    u64 *record = record_at(s, below(r, subarea_count(s))), *at;
+    switch (below(r, 4)) {
+    case 0: at = record + BT_PATCH_COUNT; break;
+    case 1: at = record + BT_SEGMENT_COUNT; break;
+    case 2: at = patch_at(record, below(r, record[BT_PATCH_COUNT] % 8 + 1) % 8) + below(r, 3); break;
+    default: at = segment_at(record, below(r, record[BT_SEGMENT_COUNT] % 6 + 1) % 6) + below(r, 3); break;
+    }
+    *at = nasty(r, *at);
+}
+
+/* Makes a number the same as its like in the row before, or trades the two. */
+static void spoil_order(struct list *l, size_t width, struct prng *r)
+{
+    if (l->len <= width)
+        return;
+    u64 *at = &l->at[between(r, width, l->len - 1)], was = *at;
+    *at = at[-(ptrdiff_t)width];
+    if (chance(r, 60))
+        at[-(ptrdiff_t)width] = was;
+}
+
+static size_t other_length(size_t len, size_t width, struct prng *r)
+{
+    static const size_t steps[] = { 0, 1, 2 };
+    size_t by = chance(r, 50) ? width : steps[below(r, 3)];
+    size_t got = chance(r, 50) ? len + by : len < by ? 0 : len - by;
+    return got < ROOM ? got : ROOM;
+}
+
+static void spoil_length(struct site *s, struct prng *r)
+{
+    switch (below(r, 7)) {
+    case 0: s->rain.len = other_length(s->rain.len, s->inflow, r); break;
+    case 1: s->subareas.len = other_length(s->subareas.len, BT_WIDTH, r); break;
+    case 2: s->pond.len = other_length(s->pond.len, BT_POND_WIDTH, r); break;
+    case 3: s->inflow = other_length(s->inflow, 1, r); break;
+    case 4: s->outflow = other_length(s->outflow, 1, r); break;
+    case 5: s->storage = other_length(s->storage, 1, r); break;
+    default: set_rows(s, other_length(s->rain.len, 1, r)); break;
+    }
+}
+
+/* Discharge from some row on about as high as refusal 13 lets it be. */
+static void spoil_discharge(struct site *s, struct prng *r)
+{
+    if (pond_rows(s) == 0)
+        return;
+    size_t first = below(r, pond_rows(s));
+    u64 half = s->step < 2 ? 1 : s->step / 2, least = pond_row_at(s, first)[1] / half + below(r, 2);
+    for (size_t i = first; i < pond_rows(s); i++)
+        if (pond_row_at(s, i)[2] < least)
+            pond_row_at(s, i)[2] = least;
+}
+
+/* A Tc near one that the study's step, or 36,000, forbids. */
+static void spoil_time(struct site *s, u64 *record, struct prng *r)
+{
+    const u64 near[] = { 36000, (5 * s->step + 2) / 3 % 36000, 512 * s->step / 3 % 36000, below(r, 36000) };
+    set_concentration(record, near[below(r, 4)] + below(r, 4));
+}
+
+/* Nothing out of its own limits, but perhaps out of the study's. */
+static void spoil_fit(struct site *s, struct prng *r)
+{
+    if (subarea_count(s) == 0)
+        return;
+    u64 *record = record_at(s, below(r, subarea_count(s)));
+    switch (below(r, 3)) {
+    case 0: spoil_time(s, record, r); break;
+    case 1: patch_at(record, 0)[2] += 200000 - total_area(s) + below(r, 3); break;
+    default: spoil_discharge(s, r); break;
+    }
+}
+
+static void spoil(struct site *s, struct prng *r)
+{
+    switch (below(r, 11)) {
+    case 0: s->step = nasty(r, s->step); break;
+    case 1: s->first = chance(r, 50) ? nasty(r, s->first) : BT_LAST_ROW_NUMBER - s->inflow + below(r, 4); break;
+    case 2: spoil_number(&s->rain, r); break;
+    case 3: spoil_order(&s->rain, 1, r); break;
+    case 4: spoil_number(&s->pond, r); break;
+    case 5: spoil_order(&s->pond, BT_POND_WIDTH, r); break;
+    case 6: spoil_length(s, r); break;
+    case 7:
+    case 8: spoil_fit(s, r); break;
+    default: spoil_record(s, r); break;
+    }
+}
+
+void hostile_site(struct site *s, struct prng *r)
+{
+    likely_site(s, r);
+    for (u64 n = between(r, 1, 3); n > 0; n--)
+        spoil(s, r);
+}

@@ -1,0 +1,64 @@
+/* A site: everything that is lent to one study, as numbers to be handed over. Random ones are made here. */
+#ifndef SITE_H
+#define SITE_H
+
+#include <stdbool.h>
+#include <stddef.h>
+#include <stdint.h>
+
+#include "bridletenon.h"
+#include "reference.h"
+
+enum { ROOM = 2304 }; /* most numbers in any list, also in one that is too long */
+
+struct list {
+    size_t len;
+    u64 at[ROOM];
+};
+
+struct site {
+    u64 step, first;
+    struct list rain, subareas, pond;
+    size_t inflow, outflow, storage; /* lengths of the row lists */
+};
+
+/* ---- Random numbers (splitmix64) */
+
+struct prng {
+    u64 state;
+};
+
+struct prng prng_of(u64 seed, u64 number);
+u64 any(struct prng *r);
+u64 below(struct prng *r, u64 n);                /* 0 to n - 1 */
+u64 between(struct prng *r, u64 least, u64 most);
+bool chance(struct prng *r, u64 percent);
+
+/* ---- Parts of a site. Places count from 0. */
+
+size_t subarea_count(const struct site *s);
+size_t pond_rows(const struct site *s);
+u64 *record_at(struct site *s, size_t i);
+u64 *patch_at(u64 *record, size_t i);
+u64 *segment_at(u64 *record, size_t i);
+u64 *pond_row_at(struct site *s, size_t i);
+void set_rows(struct site *s, size_t m);             /* the length of all three row lists */
+void set_concentration(u64 *record, u64 seconds);    /* one or two segments of kind 3 */
+void set_pond(struct site *s, size_t rows, u64 capacity, u64 half, u64 percent);
+
+/* ---- Whole sites */
+
+/* Fixed in all but its numbers: 'count' full records, 'rows' pond rows, 12 rows, 8 rain steps. Accepted with a step of
+   120 or of 300, and the pond holds all the water. */
+void plain_site(struct site *s, struct prng *r, size_t count, size_t rows);
+
+/* As an engineer might hand it in; most are accepted. */
+void likely_site(struct site *s, struct prng *r);
+
+/* 2,000 rows, 16 subareas of 512 weights each, 64 pond rows. */
+void large_site(struct site *s, struct prng *r);
+
+/* A likely site with one to three numbers, lengths or orders spoilt. */
+void hostile_site(struct site *s, struct prng *r);
+
+#endif
