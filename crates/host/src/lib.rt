@@ -4,7 +4,7 @@ use study::Setup;
 use study::StudyAnswer;
 ghost use mathlib.Core.Path.{_≡_};
 ghost use lib.ListN.{length};
-ghost use Rattle.study.specs.Study.{answerOf, refusalOf, inflowRows, outflowRows, storageRows, after, refusalIn, valuesIn};
+ghost use Rattle.study.specs.Study.{answerOf, refusalOf, inflowRows, outflowRows, storageRows, after, refusalIn};
 ghost use Rattle.host.specs.Answers.{setupOf, numbers, numbersOf};
 
 // Writes an answer's twelve numbers and gives the first.

@@ -2,10 +2,10 @@
 use mathlib.Core.Path.{_≡_, refl, sym, ap, _∙_}
 use mathlib.Core.Bool.{Bool, true, false}
 use mathlib.Core.List.{List, [], _∷_}
-use Prim.Native.Nat.{ℕ, zero, suc, _+_, _-_, _*_, _/_, _≤_, _<_}
+use Prim.Native.Nat.{ℕ, zero, suc, _+_, _/_, _<_}
 use native.Mathlib.Nat.{le-of-suc-le-suc}
 use native.Mathlib.Omega.{arith}
-use borrow.Author.Tests.{eq-eqb, ne-eqb, eqb-true, eqb-false}
+use borrow.Author.Tests.{eqb-true}
 use lib.Dec.{leb, eqb}
 use lib.ListN.{length, getD}
 use Rattle.laws.specs.Pick.{pick}
@@ -20,11 +20,10 @@ use Rattle.rows.proofs.Told.{over-none}
 use Rattle.study.specs.Records.{count}
 use Rattle.study.specs.declared.Setup.{Setup}
 use Rattle.study.specs.declared.Refusal.{Refusal}
-use Rattle.study.specs.declared.StudyAnswer.{StudyAnswer}
 use Rattle.study.specs.declared.StudyAnswer.the-variants.{Refused, Done}
 use Rattle.study.specs.Refusals.{refuse, none, orElse, unless, firstOf, lengthsGood, stepGood, rainCheck, lastGood, recordsGood, runChecks, firstPatches, firstSegments, firstTiming, allArea, timingChecks, listChecks, pondChecks, checksOf, overCheck}
 use Rattle.study.specs.Study.{inflowAt, inflowRows, outflowRows, storageRows, overOf, refusalOf, answerOf, figuresAll, refusalIn}
-use Rattle.study.proofs.Orders.{or-none, or-same}
+use Rattle.study.proofs.Orders.{or-none}
 use Rattle.study.proofs.Inflows.{rows-length}
 use Rattle.study.proofs.Settling.{check-past}
 use Rattle.study.proofs.Ready.{run-ok, work-ok}

@@ -1,15 +1,14 @@
 -- What the checks 1 to 13 leave, group by group. Assumes nothing.
-use mathlib.Core.Path.{_≡_, refl, ap, _∙_}
+use mathlib.Core.Path.{_≡_, refl}
 use mathlib.Core.Bool.{Bool, true, false, _&&_}
 use mathlib.Core.List.{List}
-use Prim.Native.Nat.{ℕ, _+_, _-_, _*_, _/_, _%_, _≤_, _<_}
+use Prim.Native.Nat.{ℕ, _+_, _-_, _/_, _%_, _≤_, _<_}
 use native.Mathlib.Nat.{add-sub-cancel}
 use native.Mathlib.Omega.{arith}
 use borrow.Author.Tests.{eqb-true, leb-true, ltb-false, ne-eqb}
 use lib.Dec.{leb, ltb, eqb}
 use lib.ListN.{length, getD}
 use Rattle.laws.specs.Pick.{pick}
-use Rattle.laws.specs.Scan.{scan}
 use Rattle.laws.specs.Within.{within}
 use Rattle.laws.proofs.Tests.{Kept, both-left, both-right, kept}
 use Rattle.laws.proofs.Scans.{scan-all, scan-most}
@@ -20,9 +19,8 @@ use Rattle.pond.specs.PondRows as Pond
 use Rattle.pond.specs.PondRows.{countGood, firstBad, firstShort, rowGood, heldGood, HalfOk, PondOk}
 use Rattle.pond.proofs.Limits.{table-ok, pond-ok}
 use Rattle.study.specs.Records.{width, count, recordAt, timeOf}
-use Rattle.study.specs.declared.Refusal.{Refusal}
 use Rattle.study.specs.Refusals.{refuse, none, orElse, unless, firstOf, lengthsGood, stepGood, entryGood, firstEntry, rainCheck, lastGood, recordsGood, runChecks, firstPatches, firstSegments, firstTiming, allArea, timingChecks, listChecks, pondChecks, checksOf, RecordsOk}
-use Rattle.study.specs.Study.{RecordOk, ListOk, WorkOk}
+use Rattle.study.specs.Study.{ListOk, WorkOk}
 use Rattle.study.proofs.Orders.{or-none, unless-none, first-none}
 use Rattle.study.proofs.Subareas.{record-length}
 use Rattle.study.proofs.Passed.{each-passes, all-patches, all-segments}

@@ -1,5 +1,5 @@
 -- What refusal 14 decides, and where the checks 1 to 13 leave the answer to it. Assumes nothing.
-use mathlib.Core.Path.{_≡_, refl, ap, _∙_}
+use mathlib.Core.Path.{_≡_}
 use mathlib.Core.List.{List}
 use Prim.Native.Nat.{ℕ, _/_}
 use borrow.Author.Tests.{eq-eqb, ne-eqb}
@@ -10,9 +10,8 @@ use Rattle.curve.specs.declared.Classes.{Classes}
 use Rattle.study.specs.declared.Setup.{Setup}
 use Rattle.study.specs.declared.Refusal.{Refusal}
 use Rattle.study.specs.declared.Figures.{Figures}
-use Rattle.study.specs.declared.StudyAnswer.{StudyAnswer}
 use Rattle.study.specs.declared.StudyAnswer.the-variants.{Refused, Done}
-use Rattle.study.specs.Refusals.{refuse, none, orElse, checksOf, overCheck}
+use Rattle.study.specs.Refusals.{refuse, none, checksOf, overCheck}
 use Rattle.study.specs.Study.{inflowRows, classesAll, withClasses, overOf, refusalOf, figuresAll, answerOf, settled, after}
 use Rattle.study.proofs.Orders.{or-first, or-second}
 

@@ -11,7 +11,7 @@ ghost use Rattle.curve.specs.declared.Classes.{Classes};
 ghost use Rattle.pond.specs.PondRows.{empty, PondOk};
 ghost use Rattle.rows.specs.Routing.{outflows, storages, passed, InflowOk};
 ghost use Rattle.rows.specs.Standing.{figuresOf};
-ghost use Rattle.study.specs.Records.{width, areaOf};
+ghost use Rattle.study.specs.Records.{areaOf};
 ghost use Rattle.study.specs.Refusals.{overCheck, RecordsOk, AllPatches};
 ghost use Rattle.study.specs.Study.{partOf, rowsFrom, inflowRows, classesAll, classesWith, withClasses, overOf, inflowRefusal, refusalOf, answerOf, settled, outflowRows, storageRows, after, ClassesOk, RowsLent, RecordOk, ListOk, WorkOk};
 

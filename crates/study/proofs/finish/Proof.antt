@@ -1,13 +1,13 @@
 -- `study::finish` meets its contract. Assumes nothing.
-use mathlib.Core.Path.{_≡_, refl, sym, ap, _∙_}
+use mathlib.Core.Path.{sym, ap, _∙_}
 use mathlib.Core.List.{List}
-use Prim.Native.Nat.{ℕ, _≤_}
+use Prim.Native.Nat.{ℕ}
 use native.Mathlib.Omega.{arith}
 use borrow.Author.Needs.{needs}
 use lib.ListN.{length}
 use Rattle.pond.specs.PondRows.{empty}
 use Rattle.pond.proofs.Steps.{empty-ok}
-use Rattle.rows.specs.Routing.{outflowOf, outflows, storages}
+use Rattle.rows.specs.Routing.{outflowOf, outflows}
 use Rattle.rows.specs.Standing.{figuresOf}
 use Rattle.rows.proofs.Columns.{column-length}
 use Rattle.rows.proofs.Reached.{rows-stand}

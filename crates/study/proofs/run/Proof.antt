@@ -1,10 +1,9 @@
 -- `study::run` meets its contract. Assumes nothing.
-use mathlib.Core.Path.{_≡_, refl, sym, ap, _∙_}
+use mathlib.Core.Path.{_≡_, sym, ap, _∙_}
 use Prim.Native.Nat.{ℕ}
 use borrow.Author.Needs.{needs}
 use lib.ListN.{length}
 use Rattle.study.specs.declared.Refusal.{Refusal}
-use Rattle.study.specs.declared.StudyAnswer.{StudyAnswer}
 use Rattle.study.specs.declared.StudyAnswer.the-variants.{Refused}
 use Rattle.study.specs.Refusals.{checksOf}
 use Rattle.study.proofs.Settling.{stop-answer, stop-old, past-answer, past-after}

@@ -1,5 +1,5 @@
 -- `study::settle` meets its contract. Assumes nothing.
-use mathlib.Core.Path.{_≡_, refl, sym, ap, _∙_}
+use mathlib.Core.Path.{_≡_, sym, ap, _∙_}
 use Prim.Native.Nat.{ℕ}
 use borrow.Author.Needs.{needs}
 use Rattle.pond.specs.PondRows.{empty}
@@ -7,7 +7,6 @@ use Rattle.pond.proofs.Steps.{empty-ok}
 use Rattle.rows.specs.Routing.{overRow, dryOf}
 use Rattle.rows.specs.declared.Dry.{Dry}
 use Rattle.rows.proofs.Told.{over-none}
-use Rattle.study.specs.declared.StudyAnswer.{StudyAnswer}
 use Rattle.study.specs.declared.StudyAnswer.the-variants.{Refused, Done}
 use Rattle.study.specs.Refusals.{refuse}
 use Rattle.study.proofs.Settling.{over-old, over-answer, under-new, under-answer}

@@ -7,7 +7,7 @@ use borrow.Author.Needs.{needs}
 use borrow.Author.Tests.{not-true, not-false}
 use Rattle.laws.proofs.Scans.{scan-most}
 use Rattle.pond.specs.PondRows as Pond
-use Rattle.pond.specs.PondRows.{countGood, rowGood, firstBad, firstShort, TableOk}
+use Rattle.pond.specs.PondRows.{countGood, rowGood, firstBad, TableOk}
 use Rattle.pond.proofs.Limits.{table-ok}
 use Rattle.study.specs.declared.Refusal.{Refusal}
 use Rattle.study.specs.Refusals.{firstOf, pondChecks}

@@ -1,6 +1,5 @@
 -- `study::checks::run_checks` meets its contract. Assumes nothing.
 use mathlib.Core.Path.{ap, _∙_}
-use mathlib.Core.Bool.{Bool}
 use borrow.Author.Needs.{needs}
 use Rattle.study.specs.Refusals.{unless, runChecks}
 use Rattle.study.proofs.Orders.{or-same}

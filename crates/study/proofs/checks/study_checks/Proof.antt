@@ -1,5 +1,5 @@
 -- `study::checks::study_checks` meets its contract. Assumes nothing.
-use mathlib.Core.Path.{_≡_, refl, sym, ap, _∙_}
+use mathlib.Core.Path.{sym, ap, _∙_}
 use borrow.Author.Needs.{needs}
 use Prim.Native.Nat.{_/_}
 use Rattle.study.specs.declared.Refusal.{Refusal}
