@@ -1,4 +1,6 @@
 // A study on flat numbers: every input ends with an answer.
+// Units: rain in thousandths of an inch, inflow volumes and storage in thousandths of a cubic foot, outflow in thousandths
+// of a cfs; half is half the step, in seconds.
 pub mod checks;
 pub mod subarea;
 
@@ -27,7 +29,9 @@ pub struct Refusal {
     pub place: u64,
 }
 
-// The figures of a study.
+// The figures of a study: total inflow, total released and the last storage in thousandths of a cubic foot, peak outflow in
+// thousandths of a cfs with the first row that has it (from 1), greatest stage in thousandths of a ft, and the area in each
+// class in hundredths of an acre.
 pub struct Figures {
     pub inflow: u64,
     pub released: u64,
@@ -41,6 +45,7 @@ pub struct Figures {
     pub rural: u64,
 }
 
+// Every input has one of the two.
 pub enum StudyAnswer {
     Refused(Refusal),
     Done(Figures),
