@@ -198,6 +198,24 @@ fn last(f: Figures) -> Figures {
     one(f.d)
 }
 
+// The first of refusals 1 to 5 that one row meets. Its number is above NONE: it is told in millions and what is over.
+fn over_limit(millions: u64, over: u64) -> u64 {
+    if millions > 10000000000 {
+        return NONE;
+    }
+    if over > 999999 {
+        return NONE;
+    }
+    let setup = study::Setup {
+        step: STEP,
+        first: millions * 1000000 + over,
+    };
+    let rain = [0u64; 2];
+    let subareas = [0u64; 44];
+    let v = study::checks::run_checks(setup, &rain, &subareas, 1, 1, 1);
+    v.number
+}
+
 // The function that a row names, on its numbers.
 pub(crate) fn worked(function: u8, n: &[u64]) -> Figures {
     match function {
@@ -215,6 +233,7 @@ pub(crate) fn worked(function: u8, n: &[u64]) -> Figures {
         b'r' => ponds::routed(n),
         b'x' => last(ponds::routed(n)),
         b'l' => one(ponds::refusal(ponds::routed(n))),
+        b'o' => one(over_limit(at(n, 0), at(n, 1))),
         _ => one(NONE),
     }
 }

@@ -1,5 +1,11 @@
-// The sheet, block by block: the site, the subareas, the rows and the figures.
+// The sheet, block by block: the site, the subareas, the pond, the rows and the figures.
+use crate::lists;
 use crate::say;
+use crate::site::PATCH;
+use crate::site::POND_ROW;
+use crate::site::SEGMENT;
+use crate::site::SEGMENT_COUNT;
+use crate::site::SUBAREAS;
 use crate::site::Site;
 use study::Figures;
 use study::subarea;
@@ -18,7 +24,7 @@ fn rain_total(rain: &[u64]) -> u64 {
     }
 }
 
-pub(crate) fn heading(site: Site, rain: &[u64]) {
+fn heading(site: Site, rain: &[u64]) {
     let words = b"DETENTION POND STUDY\n\
         \n\
         Step          | s = | (h:mm:ss)\n\
@@ -26,18 +32,13 @@ pub(crate) fn heading(site: Site, rain: &[u64]) {
         Rows          |\n\
         Rain total    | in\n\
         Rain entries  |\n";
-    say::piece(words, 0);
-    say::number(site.step);
+    say::with_number(words, 0, site.step);
     say::piece(words, 1);
     say::clock(site.step, 0);
-    say::piece(words, 2);
-    say::number(site.first);
-    say::piece(words, 3);
-    say::number(site.rows as u64);
-    say::piece(words, 4);
-    say::thousandths(rain_total(rain), 0);
-    say::piece(words, 5);
-    say::number(rain.len() as u64);
+    say::with_number(words, 2, site.first);
+    say::with_number(words, 3, site.rows as u64);
+    say::with_thousandths(words, 4, rain_total(rain), 0);
+    say::with_number(words, 5, rain.len() as u64);
     say::piece(words, 6);
 }
 
@@ -70,16 +71,53 @@ fn subarea_line(step: u64, number: u64, own: &[u64])
     say::line_end();
 }
 
-pub(crate) fn subareas(step: u64, list: &[u64]) {
-    say::bytes(b"\nSubarea    Area, ac  Curve number   Tc, s   Tp, s  Weights\n");
+// One record's lines in the block of its figures, its patches or its segments.
+fn record_lines(item: u64, step: u64, number: u64, own: &[u64])
+    requires { ⌜ length (now own) ≡ 44 ⌝ }
+{
+    let a = 1;
+    let e = SEGMENT_COUNT;
+    let b = e + 1;
+    match item {
+        PATCH => lists::lines(item, number, &own[a..e]),
+        SEGMENT => lists::lines(item, number, &own[b..]),
+        _ => subarea_line(step, number, own),
+    }
+}
+
+fn records(item: u64, step: u64, list: &[u64]) {
     let n = list.len() / subarea::WIDTH;
     let mut i = 0;
     while i < n {
         let a = subarea::WIDTH * i;
         let e = a + subarea::WIDTH;
         i += 1;
-        subarea_line(step, i as u64, &list[a..e]);
+        record_lines(item, step, i as u64, &list[a..e]);
     }
+}
+
+fn subarea_blocks(step: u64, list: &[u64]) {
+    let heads = b"\nSubarea    Area, ac  Curve number   Tc, s   Tp, s  Weights\n\
+        |\nSubarea  Cover  Soil    Area, ac  Curve number\n\
+        |\nSubarea      Kind  Length, ft  Slope, ft/ft  Velocity, ft/s  Time, s\n";
+    say::piece(heads, 0);
+    records(SUBAREAS, step, list);
+    say::piece(heads, 1);
+    records(PATCH, step, list);
+    say::piece(heads, 2);
+    records(SEGMENT, step, list);
+}
+
+fn pond_table(pond: &[u64]) {
+    say::bytes(b"\n       Stage, ft      Storage, cf  Discharge, cfs\n");
+    lists::lines(POND_ROW, 0, pond);
+}
+
+// What was asked: the site with its lists.
+pub(crate) fn given(site: Site, rain: &[u64], subareas: &[u64], pond: &[u64]) {
+    heading(site, rain);
+    subarea_blocks(site.step, subareas);
+    pond_table(pond);
 }
 
 // The stage at X = storage + h times outflow. Every row of a study that was not refused passes the
@@ -159,18 +197,12 @@ fn water(first: u64, f: Figures) {
         Last storage   | cf\n\
         Peak outflow   | cfs in row |\n\
         Greatest stage | ft\n";
-    say::piece(words, 0);
-    say::thousandths(f.inflow, 12);
-    say::piece(words, 1);
-    say::thousandths(f.released, 12);
-    say::piece(words, 2);
-    say::thousandths(f.storage, 12);
-    say::piece(words, 3);
-    say::thousandths(f.peak, 12);
-    say::piece(words, 4);
-    say::number(row_number(first, f.row));
-    say::piece(words, 5);
-    say::thousandths(f.stage, 12);
+    say::with_thousandths(words, 0, f.inflow, 12);
+    say::with_thousandths(words, 1, f.released, 12);
+    say::with_thousandths(words, 2, f.storage, 12);
+    say::with_thousandths(words, 3, f.peak, 12);
+    say::with_number(words, 4, row_number(first, f.row));
+    say::with_thousandths(words, 5, f.stage, 12);
     say::piece(words, 6);
 }
 
@@ -179,26 +211,19 @@ fn areas(f: Figures) {
         Districts      | ac\n\
         Lots           | ac\n\
         Rural          | ac\n";
-    say::piece(words, 0);
-    say::hundredths(f.surfaces, 13);
-    say::piece(words, 1);
-    say::hundredths(f.districts, 13);
-    say::piece(words, 2);
-    say::hundredths(f.lots, 13);
-    say::piece(words, 3);
-    say::hundredths(f.rural, 13);
+    say::with_hundredths(words, 0, f.surfaces, 13);
+    say::with_hundredths(words, 1, f.districts, 13);
+    say::with_hundredths(words, 2, f.lots, 13);
+    say::with_hundredths(words, 3, f.rural, 13);
     say::piece(words, 4);
 }
 
 // Where the water went, to the last thousandth.
 fn balance(f: Figures) {
     let words = b"\ninflow = released + stored: | = | + ";
-    say::piece(words, 0);
-    say::thousandths(f.inflow, 0);
-    say::piece(words, 1);
-    say::thousandths(f.released, 0);
-    say::piece(words, 2);
-    say::thousandths(f.storage, 0);
+    say::with_thousandths(words, 0, f.inflow, 0);
+    say::with_thousandths(words, 1, f.released, 0);
+    say::with_thousandths(words, 2, f.storage, 0);
     say::line_end();
 }
 

@@ -39,12 +39,10 @@ fn item(r: Reader) {
     say::piece(names, r.item);
     place(r.item, r.k as u64);
     if r.of > 0 {
-        say::piece(names, 13);
-        say::number(r.of as u64);
+        say::with_number(names, 13, r.of as u64);
     }
     if r.fault == TOO_MANY {
-        say::piece(names, 14);
-        say::number(r.k as u64);
+        say::with_number(names, 14, r.k as u64);
     }
 }
 
@@ -57,8 +55,7 @@ pub(crate) fn reading(name: &[u8], s: &[u8], r: Reader) {
         |: too large for this sheet: \
         |: too many numbers; expected: ";
     say::bytes(name);
-    say::piece(words, 0);
-    say::number(text::line(s, r.at));
+    say::with_number(words, 0, text::line(s, r.at));
     say::piece(words, r.fault);
     item(r);
     say::line_end();

@@ -1,6 +1,7 @@
 // Reads a study's numbers from a file, runs it and prints its sheet. docs/SHEET.md has the format.
 mod blocks;
 mod faults;
+mod lists;
 mod rules;
 mod say;
 mod site;
@@ -31,8 +32,7 @@ fn worked(
     match study::run(setup, rain, subareas, pond, inflow, outflow, storage) {
         StudyAnswer::Refused(r) => rules::refused(r),
         StudyAnswer::Done(f) => {
-            blocks::heading(site, rain);
-            blocks::subareas(site.step, subareas);
+            blocks::given(site, rain, subareas, pond);
             blocks::rows(site, pond, inflow, outflow, storage);
             blocks::figures(site.first, f);
         }

@@ -24,10 +24,8 @@ fn rule(number: u64) {
 
 pub(crate) fn refused(r: Refusal) {
     let words = b"Refused: number |, place ";
-    say::piece(words, 0);
-    say::number(r.number);
-    say::piece(words, 1);
-    say::number(r.place);
+    say::with_number(words, 0, r.number);
+    say::with_number(words, 1, r.place);
     rule(r.number);
     say::line_end();
 }

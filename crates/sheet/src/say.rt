@@ -26,7 +26,7 @@ fn front(s: &[u8], n: usize) {
     }
 }
 
-fn blanks(n: usize) {
+pub(crate) fn blanks(n: usize) {
     front(b"                                ", n);
 }
 
@@ -45,25 +45,43 @@ fn digit(n: u64) -> u8 {
     b'0' + (n % 10) as u8
 }
 
-// A number of thousandths as a decimal; the column is that of its whole units.
-pub(crate) fn thousandths(n: u64, column: usize) {
-    right(n / 1000, column);
-    let rest = [b'.', digit(n / 100), digit(n / 10), digit(n)];
+// A mark and the last two digits of a number.
+fn two(mark: u8, n: u64) {
+    let rest = [mark, digit(n / 10), digit(n)];
     bytes(&rest);
 }
 
-// A number of hundredths as a decimal.
+// A number of hundredths as a decimal; the column is that of its whole units.
 pub(crate) fn hundredths(n: u64, column: usize) {
     right(n / 100, column);
-    let rest = [b'.', digit(n / 10), digit(n)];
-    bytes(&rest);
+    two(b'.', n);
+}
+
+// A number of thousandths as a decimal.
+pub(crate) fn thousandths(n: u64, column: usize) {
+    hundredths(n / 10, column);
+    number(n % 10);
 }
 
 // Seconds as h:mm:ss, which is exact where a decimal of an hour is not; the column is that of the hours.
 pub(crate) fn clock(seconds: u64, column: usize) {
     right(seconds / 3600, column);
-    let m = seconds / 60 % 60;
-    let s = seconds % 60;
-    let rest = [b':', digit(m / 10), digit(m), b':', digit(s / 10), digit(s)];
-    bytes(&rest);
+    two(b':', seconds / 60 % 60);
+    two(b':', seconds % 60);
+}
+
+// Piece k of a text and a number behind it, as below for decimals.
+pub(crate) fn with_number(s: &[u8], k: u64, n: u64) {
+    piece(s, k);
+    number(n);
+}
+
+pub(crate) fn with_hundredths(s: &[u8], k: u64, n: u64, column: usize) {
+    piece(s, k);
+    hundredths(n, column);
+}
+
+pub(crate) fn with_thousandths(s: &[u8], k: u64, n: u64, column: usize) {
+    piece(s, k);
+    thousandths(n, column);
 }

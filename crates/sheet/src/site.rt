@@ -38,7 +38,7 @@ pub(crate) const POND_ROW: u64 = 11;
 pub(crate) const END: u64 = 12;
 
 // Where a record has its segment count.
-const SEGMENT_COUNT: usize = 25;
+pub(crate) const SEGMENT_COUNT: usize = 25;
 
 // One row more than a study may have, so that the engine can refuse it.
 pub(crate) const MOST_ROWS: usize = 2001;
