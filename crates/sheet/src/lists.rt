@@ -3,7 +3,6 @@ use crate::say;
 use crate::site::PATCH;
 use crate::site::POND_ROW;
 use crate::site::SEGMENT;
-ghost use Prim.Native.Nat.{_≤_};
 
 // A place that no patch was laid in has cover 0. All others of a study that was not refused pass.
 fn patch_line(of: u64, cover: u64, soil: u64, area: u64) {

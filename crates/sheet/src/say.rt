@@ -70,7 +70,7 @@ pub(crate) fn clock(seconds: u64, column: usize) {
     two(b':', seconds % 60);
 }
 
-// Piece k of a text and a number behind it, as below for decimals.
+// Piece k of a text and a number behind it; the next two do so for decimals.
 pub(crate) fn with_number(s: &[u8], k: u64, n: u64) {
     piece(s, k);
     number(n);
