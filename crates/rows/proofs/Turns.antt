@@ -34,7 +34,7 @@ turn-ok f h b q least hb hq r =
     record { flows = omega (arith, mul-le-mul-right b least, mul-le-mul-right q least); release = omega arith; released-most = r }
 
 -- what rows release, where each half step is small
-released-to : (h : ℕ) (p : List ℕ) (o : ℕ) (os ss : List ℕ) (n : ℕ) → n ≤ 2000 → h * o ≤ 1018000000000 → ((i : ℕ) → i < n → h * at os i ≤ 1018000000000)
+pub released-to : (h : ℕ) (p : List ℕ) (o : ℕ) (os ss : List ℕ) (n : ℕ) → n ≤ 2000 → h * o ≤ 1018000000000 → ((i : ℕ) → i < n → h * at os i ≤ 1018000000000)
     → keptTo h p o os ss n .released ≤ 10000000000000000
 unfolding keptTo
 released-to h p o os ss n few first each =

@@ -6,6 +6,12 @@ use denote.Ref.{now}
 use Rattle.laws.proofs.OneAnswer.{OneAnswer, OneAnswerAnd, same}
 use Rattle.study.proofs.checks.or_else.Kinds as or-else-kinds
 use Rattle.study.proofs.checks.or_else.Reads as or-else-reads
+use Rattle.study.proofs.checks.unless.Kinds as unless-kinds
+use Rattle.study.proofs.checks.unless.Reads as unless-reads
+use Rattle.study.proofs.checks.first_of.Kinds as first-of-kinds
+use Rattle.study.proofs.checks.first_of.Reads as first-of-reads
+use Rattle.study.proofs.checks.all_area.Kinds as all-area-kinds
+use Rattle.study.proofs.checks.all_area.Reads as all-area-reads
 use Rattle.study.proofs.checks.run_checks.Kinds as run-checks-kinds
 use Rattle.study.proofs.checks.run_checks.Reads as run-checks-reads
 use Rattle.study.proofs.checks.list_checks.Kinds as list-checks-kinds
@@ -26,6 +32,12 @@ use Rattle.study.proofs.subarea.classes.Kinds as classes-kinds
 use Rattle.study.proofs.subarea.classes.Reads as classes-reads
 use Rattle.study.proofs.subarea.time.Kinds as time-kinds
 use Rattle.study.proofs.subarea.time.Reads as time-reads
+use Rattle.study.proofs.clear.Kinds as clear-kinds
+use Rattle.study.proofs.clear.Reads as clear-reads
+use Rattle.study.proofs.copy.Kinds as copy-kinds
+use Rattle.study.proofs.copy.Reads as copy-reads
+use Rattle.study.proofs.all_classes.Kinds as all-classes-kinds
+use Rattle.study.proofs.all_classes.Reads as all-classes-reads
 use Rattle.study.proofs.add_record.Kinds as add-record-kinds
 use Rattle.study.proofs.add_record.Reads as add-record-reads
 use Rattle.study.proofs.inflow.Kinds as inflow-kinds
@@ -35,6 +47,15 @@ use Rattle.study.proofs.run.Reads as run-reads
 
 pub or-else-one : OneAnswer or-else-kinds.ps or-else-kinds.r or-else-reads.Post
 or-else-one κs a x y s t p q = same p q
+
+pub unless-one : OneAnswer unless-kinds.ps unless-kinds.r unless-reads.Post
+unless-one κs a x y s t p q = same p q
+
+pub first-of-one : OneAnswer first-of-kinds.ps first-of-kinds.r first-of-reads.Post
+first-of-one κs a x y s t p q = same p q
+
+pub all-area-one : OneAnswer all-area-kinds.ps all-area-kinds.r all-area-reads.Post
+all-area-one κs a x y s t p q = same p q
 
 pub run-checks-one : OneAnswer run-checks-kinds.ps run-checks-kinds.r run-checks-reads.Post
 run-checks-one κs a x y s t p q = same p q
@@ -65,6 +86,15 @@ classes-one κs a x y s t p q = same p q
 
 pub time-one : OneAnswer time-kinds.ps time-kinds.r time-reads.Post
 time-one κs a x y s t p q = same p q
+
+pub all-classes-one : OneAnswer all-classes-kinds.ps all-classes-kinds.r all-classes-reads.Post
+all-classes-one κs a x y s t p q = same p q
+
+pub clear-one : OneAnswerAnd clear-kinds.ps clear-kinds.r {L = List ℕ} (λ κs s. now (s .0)) clear-reads.Post
+clear-one κs a x y s t p q = (refl, same p q)
+
+pub copy-one : OneAnswerAnd copy-kinds.ps copy-kinds.r {L = List ℕ} (λ κs s. now (s .1 .0)) copy-reads.Post
+copy-one κs a x y s t p q = (refl, same p q)
 
 pub add-record-one : OneAnswerAnd add-record-kinds.ps add-record-kinds.r {L = List ℕ} (λ κs s. now (s .1 .1 .1 .0)) add-record-reads.Post
 add-record-one κs a x y s t p q = (refl, same p q)

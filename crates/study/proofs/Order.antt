@@ -67,7 +67,7 @@ first-there [] n = absurd (n refl)
 first-there (v ∷ vs) n = headed v vs (first-there vs) n
 
 -- order does not depend on the grouping
-or-assoc : (u v w : Refusal) → orElse (orElse u v) w ≡ orElse u (orElse v w)
+pub or-assoc : (u v w : Refusal) → orElse (orElse u v) w ≡ orElse u (orElse v w)
 or-assoc u v w = go (eqb (u .number) 0) refl
   where
     go : (b : Bool) → eqb (u .number) 0 ≡ b → orElse (pick b v u) w ≡ pick b (orElse v w) u
@@ -75,13 +75,13 @@ or-assoc u v w = go (eqb (u .number) 0) refl
     go false t = rw t
 
 -- what follows a group follows its last
-after-three : (a b c w : Refusal) → orElse (orElse a (orElse b c)) w ≡ orElse a (orElse b (orElse c w))
+pub after-three : (a b c w : Refusal) → orElse (orElse a (orElse b c)) w ≡ orElse a (orElse b (orElse c w))
 after-three a b c w = or-assoc a (orElse b c) w ∙ ap (orElse a) (or-assoc b c w)
 
-after-five : (a b c d e w : Refusal) → orElse (orElse a (orElse b (orElse c (orElse d e)))) w ≡ orElse a (orElse b (orElse c (orElse d (orElse e w))))
+pub after-five : (a b c d e w : Refusal) → orElse (orElse a (orElse b (orElse c (orElse d e)))) w ≡ orElse a (orElse b (orElse c (orElse d (orElse e w))))
 after-five a b c d e w = or-assoc a (orElse b (orElse c (orElse d e))) w ∙ ap (orElse a) (or-assoc b (orElse c (orElse d e)) w ∙ ap (orElse b) (after-three c d e w))
 
-after-six : (a b c d e f w : Refusal) → orElse (orElse a (orElse b (orElse c (orElse d (orElse e f))))) w ≡ orElse a (orElse b (orElse c (orElse d (orElse e (orElse f w)))))
+pub after-six : (a b c d e f w : Refusal) → orElse (orElse a (orElse b (orElse c (orElse d (orElse e f))))) w ≡ orElse a (orElse b (orElse c (orElse d (orElse e (orElse f w)))))
 after-six a b c d e f w = or-assoc a (orElse b (orElse c (orElse d (orElse e f)))) w ∙ ap (orElse a) (after-five b c d e f w)
 
 -- 14 refuses, or it is none
@@ -102,7 +102,7 @@ over-passes h p vs e = go (eqb (overRow h p empty vs) 0) refl e
     go false t q = absurd (omega arith)
 
 -- 12 and 13 as three checks
-pond-split : (h : ℕ) (p : List ℕ) → pondChecks h p ≡ orElse (unless 12 (countGood p)) (orElse (firstOf 12 (firstBad p) (Pond.count p)) (firstOf 13 (firstShort h p) (Pond.count p)))
+pub pond-split : (h : ℕ) (p : List ℕ) → pondChecks h p ≡ orElse (unless 12 (countGood p)) (orElse (firstOf 12 (firstBad p) (Pond.count p)) (firstOf 13 (firstShort h p) (Pond.count p)))
 unfolding pondChecks
 pond-split h p = go (countGood p)
   where

@@ -22,7 +22,7 @@ pub fn or_else(v: Refusal, w: Refusal) -> Refusal
 }
 
 // Refused at place 0 unless a test holds.
-fn unless(number: u64, good: bool) -> Refusal
+pub fn unless(number: u64, good: bool) -> Refusal
     ensures { λ r. ⌜ r ≡ unless number good ⌝ }
 {
     if good {
@@ -36,7 +36,7 @@ fn unless(number: u64, good: bool) -> Refusal
 }
 
 // Refused at the place where a scan of many places stopped early; the place counts from 1.
-fn first_of(number: u64, at: usize, many: usize) -> Refusal
+pub fn first_of(number: u64, at: usize, many: usize) -> Refusal
     ensures { λ r. ⌜ r ≡ firstOf number at many ⌝ }
 {
     if at < many {
@@ -206,7 +206,7 @@ fn first_segments(subareas: &[u64]) -> usize
 }
 
 // The area of all subareas.
-fn all_area(subareas: &[u64]) -> u64
+pub fn all_area(subareas: &[u64]) -> u64
     requires { ⌜ RecordsOk (now subareas) × AllPatches (now subareas) ⌝ }
     ensures { λ r. ⌜ r ≡ allArea (now (subareas .entry)) ⌝ }
 {

@@ -76,7 +76,8 @@ fn add_records(step: u64, rain: &[u64], subareas: &[u64], rows: &mut [u64])
     }
 }
 
-fn clear(rows: &mut [u64])
+// Writes zeros over a list.
+pub fn clear(rows: &mut [u64])
     ensures { λ _. ⌜ now (rows .exit) ≡ rowsFrom (λ (k : ℕ). 0) 1 (length (now (rows .entry))) ⌝ }
 {
     let mut i = 0;
@@ -96,7 +97,7 @@ fn fill_inflow(step: u64, rain: &[u64], subareas: &[u64], rows: &mut [u64])
 }
 
 // Copies a list over another of its length.
-fn copy(from: &[u64], to: &mut [u64])
+pub fn copy(from: &[u64], to: &mut [u64])
     requires { ⌜ length (now to) ≡ length (now from) ⌝ }
     ensures { λ _. ⌜ now (to .exit) ≡ now (from .entry) ⌝ }
 {
@@ -108,7 +109,7 @@ fn copy(from: &[u64], to: &mut [u64])
 }
 
 // The area of each class over all subareas.
-fn all_classes(subareas: &[u64]) -> curve::Classes
+pub fn all_classes(subareas: &[u64]) -> curve::Classes
     requires { ⌜ RecordsOk (now subareas) × AllPatches (now subareas) ⌝ }
     ensures { λ r. ⌜ r ≡ classesAll (now (subareas .entry)) ⌝ }
 {

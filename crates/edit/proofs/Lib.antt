@@ -1,0 +1,16 @@
+pub mod Places
+pub mod OnlyFresh
+pub mod Swapping
+pub mod Changed
+pub mod Routed
+pub mod EditIsStudy
+pub mod Keeps
+pub mod Signs
+pub mod Ground
+pub mod Orders
+pub mod Ready
+pub mod Settling
+pub mod Working
+pub mod Answering
+pub mod EditOrder
+pub mod Answers
