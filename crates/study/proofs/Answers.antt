@@ -14,6 +14,8 @@ use Rattle.study.proofs.checks.all_area.Kinds as all-area-kinds
 use Rattle.study.proofs.checks.all_area.Reads as all-area-reads
 use Rattle.study.proofs.checks.run_checks.Kinds as run-checks-kinds
 use Rattle.study.proofs.checks.run_checks.Reads as run-checks-reads
+use Rattle.study.proofs.checks.mark_checks.Kinds as mark-checks-kinds
+use Rattle.study.proofs.checks.mark_checks.Reads as mark-checks-reads
 use Rattle.study.proofs.checks.list_checks.Kinds as list-checks-kinds
 use Rattle.study.proofs.checks.list_checks.Reads as list-checks-reads
 use Rattle.study.proofs.checks.pond_checks.Kinds as pond-checks-kinds
@@ -59,6 +61,9 @@ all-area-one κs a x y s t p q = same p q
 
 pub run-checks-one : OneAnswer run-checks-kinds.ps run-checks-kinds.r run-checks-reads.Post
 run-checks-one κs a x y s t p q = same p q
+
+pub mark-checks-one : OneAnswer mark-checks-kinds.ps mark-checks-kinds.r mark-checks-reads.Post
+mark-checks-one κs a x y s t p q = same p q
 
 pub list-checks-one : OneAnswer list-checks-kinds.ps list-checks-kinds.r list-checks-reads.Post
 list-checks-one κs a x y s t p q = same p q

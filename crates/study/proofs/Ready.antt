@@ -19,7 +19,7 @@ use Rattle.pond.specs.PondRows as Pond
 use Rattle.pond.specs.PondRows.{countGood, firstBad, firstShort, rowGood, heldGood, HalfOk, PondOk}
 use Rattle.pond.proofs.Limits.{table-ok, pond-ok}
 use Rattle.study.specs.Records.{width, count, recordAt, timeOf}
-use Rattle.study.specs.Refusals.{refuse, none, orElse, unless, firstOf, lengthsGood, stepGood, entryGood, firstEntry, rainCheck, lastGood, recordsGood, runChecks, firstPatches, firstSegments, firstTiming, allArea, timingChecks, listChecks, pondChecks, checksOf, RecordsOk}
+use Rattle.study.specs.Refusals.{refuse, none, orElse, unless, firstOf, lengthsGood, stepGood, entryGood, firstEntry, rainCheck, lastGood, recordsGood, runChecks, markChecks, firstPatches, firstSegments, firstTiming, allArea, timingChecks, listChecks, pondChecks, checksOf, RecordsOk}
 use Rattle.study.specs.Study.{ListOk, WorkOk}
 use Rattle.study.proofs.Orders.{or-none, unless-none, first-none}
 use Rattle.study.proofs.Subareas.{record-length}
@@ -130,6 +130,33 @@ run-ok D first rain s m o t e =
       raining = rain-ok rain m (three .0);
       last = last-ok first m (unless-none 3 (lastGood first m) (four .0));
       records = records-ok s (unless-none 4 (recordsGood s) (four .1));
+    }
+
+-- what 1, 2 and 4 leave
+pub record MarkReady (D first m o t : ℕ) : Type 0 where
+  pub out-long : o ≡ m
+  pub held-long : t ≡ m
+  pub rows-least : 1 ≤ m
+  pub rows-most : m ≤ 2000
+  pub step-least : 60 ≤ D
+  pub step-most : D ≤ mostStep
+  pub last : first + m - 1 ≤ 9007199254740991
+
+pub mark-ready : (D first m o t : ℕ) → markChecks D first m o t .number ≡ 0 → MarkReady D first m o t
+unfolding markChecks
+mark-ready D first m o t e =
+    let one = or-none (unless 1 (lengthsGood m o t)) _ e in
+    let two = or-none (unless 2 (stepGood D)) (unless 4 (lastGood first m)) (one .1) in
+    let lists = long m o t (unless-none 0 (lengthsGood m o t) (one .0)) in
+    let step = step-ok D (unless-none 1 (stepGood D) (two .0)) in
+    record {
+      out-long = lists .outflow;
+      held-long = lists .storage;
+      rows-least = lists .rows .low;
+      rows-most = lists .rows .high;
+      step-least = step .low;
+      step-most = step .high;
+      last = last-ok first m (unless-none 3 (lastGood first m) (two .1));
     }
 
 -- half a step within its limits

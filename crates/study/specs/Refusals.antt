@@ -71,6 +71,10 @@ runChecks D first rain s m o t =
     (orElse (rainCheck rain m)
     (orElse (unless 4 (lastGood first m)) (unless 5 (recordsGood s)))))
 
+-- 1, 2 and 4, of a mark
+unfoldable pub markChecks : ℕ → ℕ → ℕ → ℕ → ℕ → Refusal
+markChecks D first m o t = orElse (unless 1 (lengthsGood m o t)) (orElse (unless 2 (stepGood D)) (unless 4 (lastGood first m)))
+
 -- 6 and 7: the first subarea whose patches, whose segments are out of limits
 abbrev pub firstPatches : List ℕ → ℕ
 firstPatches s = scan (λ i. patchesPass (recordAt s i)) (count s) 0

@@ -7,7 +7,7 @@ ghost use Rattle.laws.specs.Filled.{Filled};
 ghost use Rattle.hydrograph.specs.InflowRows.{mostStep};
 ghost use Rattle.pond.specs.PondRows.{HalfOk};
 ghost use Rattle.study.specs.Records.{count};
-ghost use Rattle.study.specs.Refusals.{orElse, unless, firstOf, lengthsGood, stepGood, entryGood, firstEntry, rainCheck, lastGood, recordsGood, runChecks, firstPatches, firstSegments, allArea, timingChecks, listChecks, pondChecks, checksOf, timeAt, RecordsOk, AllPatches, AllSegments};
+ghost use Rattle.study.specs.Refusals.{orElse, unless, firstOf, lengthsGood, stepGood, entryGood, firstEntry, rainCheck, lastGood, recordsGood, runChecks, markChecks, firstPatches, firstSegments, allArea, timingChecks, listChecks, pondChecks, checksOf, timeAt, RecordsOk, AllPatches, AllSegments};
 use crate::Refusal;
 use crate::Setup;
 use crate::subarea;
@@ -165,6 +165,19 @@ pub fn run_checks(
                     unless(5, records_good(subareas)),
                 ),
             ),
+        ),
+    )
+}
+
+// Refusals 1, 2 and 4: what a mark asks before its pond. The lengths are as in `run_checks`.
+pub fn mark_checks(setup: Setup, m: usize, o: usize, t: usize) -> Refusal
+    ensures { λ r. ⌜ r ≡ markChecks (setup .step) (setup .first) m o t ⌝ }
+{
+    or_else(
+        unless(1, lengths_good(m, o, t)),
+        or_else(
+            unless(2, step_good(setup.step)),
+            unless(4, last_good(setup.first, m)),
         ),
     )
 }
