@@ -1,0 +1,71 @@
+-- Every double of an accepted mark is the whole number itself: doubles-exact; and no row number reaches 2^53. Assumes nothing.
+use mathlib.Core.Path.{_≡_}
+use mathlib.Core.List.{List}
+use Prim.Native.Nat.{ℕ, _+_, _-_, _*_, _/_, _≤_, _<_}
+use native.Mathlib.Omega.{arith}
+use borrow.Author.Tests.{eqb-true}
+use lib.Dec.{eqb}
+use lib.ListN.{length}
+use Rattle.laws.specs.Pick.{pick}
+use Rattle.laws.proofs.Tests.{by-test}
+use Rattle.pond.proofs.Sums.{stage-most}
+use Rattle.rows.specs.Standing.{at, peakRow, rowStage}
+use Rattle.study.specs.declared.Setup.{Setup}
+use Rattle.marks.specs.declared.Mark.{Mark}
+use Rattle.marks.specs.declared.Mark.the-variants.{Nothing, Outflow, Peak}
+use Rattle.marks.specs.declared.Marked.{Marked}
+use Rattle.marks.specs.ChartMarks.{doubleOf, markAt, pointAt, markedOf, refusalOf, MarkOk}
+use Rattle.marks.proofs.Doubles.{IsWhole, double-whole}
+use Rattle.marks.proofs.Ready.{mark-ok, flow-exact, asked-ok, point-ok}
+
+-- a mark whose doubles are the whole outflow o and the whole stage s
+abbrev pub WholeMark : Mark → ℕ → ℕ → Type 0
+WholeMark Nothing o s = o ≡ 0
+WholeMark (Outflow x) o s = IsWhole x o
+WholeMark (Peak x y) o s = IsWhole x o × IsWhole y s
+
+-- a mark and its point, all whole
+pub record AllWhole (w : Marked) (n t o s : ℕ) : Type 0 where
+  pub number : IsWhole (w .point .row) n
+  pub time : IsWhole (w .point .seconds) t
+  pub flow : IsWhole (w .point .outflow) o
+  pub mark : WholeMark (w .mark) o s
+
+module _ (g : Setup) (p : List ℕ) (m : ℕ) (os ss : List ℕ) (k : ℕ) (done : refusalOf g p m os ss k .number ≡ 0) where
+  ready : MarkOk g p os ss k
+  ready = mark-ok g p m os ss k done
+
+  abbrev flow : ℕ
+  flow = at os (k - 1)
+
+  abbrev stage : ℕ
+  stage = rowStage (g .step / 2) p os ss (k - 1)
+
+  whole-flow : IsWhole (doubleOf flow) flow
+  whole-flow = double-whole flow (flow-exact (ready .pond) (asked-ok ready))
+
+  whole-stage : IsWhole (doubleOf stage) stage
+  whole-stage = double-whole stage (omega (arith, stage-most (ready .pond) (at ss (k - 1) + g .step / 2 * flow) (asked-ok ready .within-last)))
+
+  whole-mark : WholeMark (markAt (g .step / 2) p (peakRow os (length os)) k flow (at ss (k - 1))) flow stage
+  unfolding markAt
+  whole-mark =
+      by-test (λ (z : Mark). WholeMark z flow stage) (eqb flow 0) Nothing (pick (eqb k (peakRow os (length os))) (Peak (doubleOf flow) (doubleOf stage)) (Outflow (doubleOf flow)))
+      (λ t. eqb-true flow 0 t)
+      (λ t. by-test (λ (z : Mark). WholeMark z flow stage) (eqb k (peakRow os (length os))) (Peak (doubleOf flow) (doubleOf stage)) (Outflow (doubleOf flow)) (λ u. (whole-flow, whole-stage)) (λ u. whole-flow))
+
+  -- row number first + k - 1, seconds k D, outflow and, at the peak, the stage: each double is that number, and casts back to it
+  pub doubles-exact : AllWhole (markedOf g p os ss k) (g .first + k - 1) (k * g .step) flow stage
+  unfolding markedOf pointAt
+  doubles-exact =
+      let small = point-ok ready in
+      record {
+        number = double-whole (g .first + k - 1) (small .number);
+        time = double-whole (k * g .step) (small .time);
+        flow = whole-flow;
+        mark = whole-mark;
+      }
+
+  -- accepted: every row's number is below 9007199254740992
+  pub row-numbers : (j : ℕ) → j < length os → g .first + j < 9007199254740992
+  row-numbers j l = omega (arith, ready .last)

@@ -1,0 +1,171 @@
+// A row's mark and point for a chart, as doubles. Each is a whole number below 2^53, so nothing is rounded.
+// Units: outflow in thousandths of a cfs, storage in thousandths of a cubic foot, stage in thousandths of a ft; half is half
+// the step, in seconds; rows count from 1.
+use study::Refusal;
+use study::Setup;
+ghost use mathlib.Core.Path.{_≡_};
+ghost use Prim.Native.Nat.{_≤_};
+ghost use lib.ListN.{length};
+ghost use Rattle.pond.specs.PondRows.{PondOk};
+ghost use Rattle.rows.specs.Standing.{peakRow, RowOk};
+ghost use Rattle.marks.specs.ChartMarks.{doubleOf, mostExact, markAt, pointAt, markedOf, rowChecks, refusalOf, answerOf, refusalIn, PointOk, MarkOk};
+
+// Where a row stands on a chart: its number, the seconds from the start, its outflow.
+pub struct Point {
+    pub row: f64,
+    pub seconds: f64,
+    pub outflow: f64,
+}
+
+// What stands there: nothing, an outflow, or the peak with its outflow and stage.
+pub enum Mark {
+    Nothing,
+    Outflow(f64),
+    Peak(f64, f64),
+}
+
+pub struct Marked {
+    pub mark: Mark,
+    pub point: Point,
+}
+
+// Every input has one of the two.
+pub enum MarkAnswer {
+    Refused(Refusal),
+    Done(Marked),
+}
+
+// The whole number as a double.
+fn double(n: u64) -> f64
+    requires { ⌜ n ≤ mostExact ⌝ }
+    ensures { λ r. ⌜ r ≡ doubleOf n ⌝ }
+{
+    n as f64
+}
+
+// The first row with the greatest outflow: a later one must be above it.
+fn peak_row(outflow: &[u64]) -> u64
+    ensures { λ r. ⌜ r ≡ peakRow (now (outflow .entry)) (length (now (outflow .entry))) ⌝ }
+{
+    let mut peak = 0;
+    let mut row = 1;
+    let mut i = 0;
+    while i < outflow.len() {
+        let own = outflow[i];
+        if peak < own {
+            peak = own;
+            row = i as u64 + 1;
+        }
+        i += 1;
+    }
+    row
+}
+
+// The first rule that fits: nothing without outflow, also in the peak row; the peak; an outflow.
+fn mark_of(pond: &[u64], half: u64, peak: u64, row: u64, outflow: u64, storage: u64) -> Mark
+    requires { ⌜ PondOk half (now pond) × RowOk half (now pond) outflow storage ⌝ }
+    ensures { λ r. ⌜ r ≡ markAt half (now (pond .entry)) peak row outflow storage ⌝ }
+{
+    if outflow == 0 {
+        return Mark::Nothing;
+    }
+    let flow = double(outflow);
+    if row == peak {
+        let stage = pond::stage_at_sum(pond, half, storage + half * outflow);
+        return Mark::Peak(flow, double(stage));
+    }
+    Mark::Outflow(flow)
+}
+
+fn point_of(setup: Setup, row: u64, outflow: u64) -> Point
+    requires { ⌜ PointOk setup row outflow ⌝ }
+    ensures { λ r. ⌜ r ≡ pointAt setup row outflow ⌝ }
+{
+    let earlier = row - 1;
+    let number = double(setup.first + earlier);
+    let seconds = double(row * setup.step);
+    let flow = double(outflow);
+    Point {
+        row: number,
+        seconds,
+        outflow: flow,
+    }
+}
+
+// The mark and the point of a row that nothing refuses.
+fn mark_and_point(setup: Setup, pond: &[u64], outflow: &[u64], storage: &[u64], row: u64) -> Marked
+    requires { ⌜ MarkOk setup (now pond) (now outflow) (now storage) row ⌝ }
+    ensures { λ r. ⌜ r ≡ markedOf setup (now (pond .entry)) (now (outflow .entry)) (now (storage .entry)) row ⌝ }
+{
+    let i = (row - 1) as usize;
+    let own = outflow[i];
+    let peak = peak_row(outflow);
+    let mark = mark_of(pond, setup.step / 2, peak, row, own, storage[i]);
+    let point = point_of(setup, row, own);
+    Marked { mark, point }
+}
+
+// Refusals 18 and 17. All rows are tested, whatever row is asked: the peak is chosen among all.
+fn row_checks(half: u64, pond: &[u64], outflow: &[u64], storage: &[u64], row: u64) -> Refusal
+    requires { ⌜ PondOk half (now pond) × ((length (now storage) ≡ length (now outflow)) × (length (now outflow) ≤ 2000)) ⌝ }
+    ensures { λ r. ⌜ r ≡ rowChecks half (now (pond .entry)) (now (outflow .entry)) (now (storage .entry)) row ⌝ }
+{
+    let m = outflow.len() as u64;
+    if !laws::within(1, row, m) {
+        return Refusal {
+            number: 18,
+            place: 0,
+        };
+    }
+    let place = rows::first_forged(pond, half, outflow, storage) as u64 + 1;
+    if place <= m {
+        return Refusal { number: 17, place };
+    }
+    Refusal {
+        number: 0,
+        place: 0,
+    }
+}
+
+// The first refusal, in the order 1, 2, 4, 12, 13, 18, 17. m is the length of the inflow list.
+fn refusal_of(
+    setup: Setup,
+    pond: &[u64],
+    m: usize,
+    outflow: &[u64],
+    storage: &[u64],
+    row: u64,
+) -> Refusal
+    ensures { λ r. ⌜ r ≡ refusalOf setup (now (pond .entry)) m (now (outflow .entry)) (now (storage .entry)) row ⌝ }
+{
+    let lists = study::checks::mark_checks(setup, m, outflow.len(), storage.len());
+    if lists.number != 0 {
+        return lists;
+    }
+    let half = setup.step / 2;
+    let table = study::checks::pond_checks(half, pond);
+    if table.number != 0 {
+        return table;
+    }
+    row_checks(half, pond, outflow, storage, row)
+}
+
+// The mark of a row: refused by number and place, or done with its mark and its point. Of the inflow list only the length is
+// read.
+pub fn mark_row(
+    setup: Setup,
+    pond: &[u64],
+    inflow: &[u64],
+    outflow: &[u64],
+    storage: &[u64],
+    row: u64,
+) -> MarkAnswer
+    ensures { λ r. ⌜ r ≡ answerOf setup (now (pond .entry)) (length (now (inflow .entry))) (now (outflow .entry)) (now (storage .entry)) row ⌝ }
+    ensures { λ r. ⌜ refusalIn r ≡ refusalOf setup (now (pond .entry)) (length (now (inflow .entry))) (now (outflow .entry)) (now (storage .entry)) row ⌝ }
+{
+    let v = refusal_of(setup, pond, inflow.len(), outflow, storage, row);
+    if v.number != 0 {
+        return MarkAnswer::Refused(v);
+    }
+    MarkAnswer::Done(mark_and_point(setup, pond, outflow, storage, row))
+}
