@@ -72,7 +72,8 @@ fn mark_of(pond: &[u64], half: u64, peak: u64, row: u64, outflow: u64, storage: 
     let flow = double(outflow);
     if row == peak {
         let stage = pond::stage_at_sum(pond, half, storage + half * outflow);
-        return Mark::Peak(flow, double(stage));
+        let height = double(stage);
+        return Mark::Peak(flow, height);
     }
     Mark::Outflow(flow)
 }

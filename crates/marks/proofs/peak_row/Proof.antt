@@ -18,8 +18,8 @@ again : tie.Need-loop-again Inv-loop μ-loop
 again c =
     let a = c .before .before .before in
     ⊎-elim
-    (λ w. rw (w .1, w .2) (peak-above (a .before .args .outflow .now) (a .loop .inv) (omega arith) (w .0 .taken)))
-    (λ w. rw (w .1, w .2) (peak-stays (a .before .args .outflow .now) (a .loop .inv) (omega arith) (w .0 .left)))
+    (λ w. rw (w .1, w .2) (peak-above (a .before .args .outflow .now) (a .loop .inv) (omega arith) (omega (arith, w .0 .taken))))
+    (λ w. rw (w .1, w .2) (peak-stays (a .before .args .outflow .now) (a .loop .inv) (omega arith) (omega (arith, w .0 .left))))
     (c .if1 .came)
 
 found : tie.Need-returns Inv-loop μ-loop
