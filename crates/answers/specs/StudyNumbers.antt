@@ -1,13 +1,9 @@
--- Answers as a host has them: twelve numbers, the refusal, its place, then the figures.
+-- A study's answer as a host has it: twelve numbers, the refusal, its place, then the figures.
 use mathlib.Core.List.{List, [], _∷_}
 use Prim.Native.Nat.{ℕ}
-use Rattle.study.specs.declared.Setup.{Setup}
 use Rattle.study.specs.declared.Figures.{Figures}
 use Rattle.study.specs.declared.StudyAnswer.{StudyAnswer}
 use Rattle.study.specs.Study.{refusalIn, valuesIn}
-
-abbrev pub setupOf : ℕ → ℕ → Setup
-setupOf D first = record { step = D; first = first }
 
 abbrev pub numbers : ℕ → ℕ → Figures → List ℕ
 numbers number place f =
