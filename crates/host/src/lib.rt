@@ -1,4 +1,7 @@
 // The interface for hosts in other languages: only whole numbers and pointers cross. include/bridletenon.h has it for C.
+mod gathering;
+pub mod records;
+
 use study::Setup;
 ghost use mathlib.Core.Path.{_≡_};
 ghost use lib.ListN.{length};

@@ -1,0 +1,53 @@
+-- `host::records::study_of` meets its contract. Assumes nothing.
+use mathlib.Core.Path.{sym, ap, _∙_, subst}
+use mathlib.Core.List.{List}
+use Prim.Native.Nat.{ℕ}
+use native.Mathlib.Omega.{arith}
+use lib.ListN.{length-map, take}
+use lib.Seq.{length-take-le}
+use denote.Ref.{now}
+use borrow.Author.Needs.{needs}
+use Rattle.study.specs.declared.StudyAnswer.{StudyAnswer}
+use Rattle.study.specs.Study.{refusalIn}
+use Rattle.answers.specs.StudyNumbers.{numbersOf}
+use Rattle.host.specs.Gathered.{used, handed}
+use Rattle.host.proofs.Handing.{used-most}
+use Rattle.host.proofs.StudyPromise.{StudyIs}
+use Rattle.host.proofs.records.study_of.Statement.{statement}
+use Rattle.host.proofs.records.study_of.Tie as tie
+use Rattle.host.proofs.records.study_of.Reads as reads
+use Rattle.host.proofs.records.study_of.Lts as lts
+use Rattle.answers.proofs.put_study.Reads as put-study-reads
+use Rattle.host.proofs.records.used_by.Reads as used-by-reads
+use Rattle.study.proofs.run.Reads as run-reads
+
+array-share-prefix-numbers : tie.Need-array-share-prefix-numbers
+array-share-prefix-numbers c = omega (arith, c .used-by .ensures, used-most (c .before .before .before .before .before .before .before .args .n), simp length-map at (c .before .before .before .before .before .before .before .good .0 .1 .1 .0 .1 .0 .1))
+
+slice-aggregate-run : tie.Need-slice-aggregate-run
+slice-aggregate-run c = sym (length-take-le _ _ (omega (arith, c .before .used-by .ensures, used-most (c .before .before .before .before .before .before .before .before .args .n), simp length-map at (c .before .before .before .before .before .before .before .before .good .0 .1 .1 .0 .1 .0 .1))))
+
+returns : tie.Need-returns
+unfolding handed
+returns c =
+    let args = c .before .before .before .before .before .before .before .before .before .before .before .before .before .before .before .before .before .before .before .before .args in
+    let own = c .before .before .before .before .before .before .before .before .run in
+    let put = c .put-study in
+    subst
+    (λ (s : List ℕ). StudyIs (args .step) (args .first) (now (args .rain)) (now (args .pond)) (now (args .inflow)) (now (args .outflow)) (now (args .storage)) s (put .result) (own .last .1 .1 .1 .1 .0) (own .last .1 .1 .1 .1 .1 .0) (own .last .1 .1 .1 .1 .1 .1 .0) (put .last .1 .0))
+    (ap (λ (n : ℕ). take n (args .flat .numbers)) (c .before .before .before .before .before .before .before .before .before .before .before .before .before .used-by .ensures))
+    (put .ensures .0 ∙ ap (λ (z : StudyAnswer). refusalIn z .number) (own .ensures .0), (put .ensures .1 ∙ ap numbersOf (own .ensures .0), own .ensures .1))
+
+pub study-of-spec : {M : Type 1} → statement M
+study-of-spec =
+    tie.close
+    (tie.spec
+    (λ c κs. search needs)
+    array-share-prefix-numbers
+    slice-aggregate-run
+    (λ c κs. search needs)
+    (λ c κs. search needs)
+    (λ c. search needs)
+    (λ c. search needs)
+    (λ c. search needs)
+    returns)

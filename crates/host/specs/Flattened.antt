@@ -1,0 +1,38 @@
+-- Document 01, 'What a study is made of': a list of records as one flat list of numbers, 44 a record.
+use mathlib.Core.List.{List, [], _∷_, _++_}
+use Prim.Native.Nat.{ℕ, zero, suc}
+use lib.ListN.{getD}
+use Rattle.host.specs.declared.records.Patch.{Patch}
+use Rattle.host.specs.declared.records.Segment.{Segment}
+use Rattle.host.specs.declared.records.Subarea.{Subarea}
+
+abbrev pub patchNumbers : Patch → List ℕ
+patchNumbers p = p .cover ∷ p .soil ∷ p .area ∷ []
+
+abbrev pub segmentNumbers : Segment → List ℕ
+segmentNumbers g = g .kind ∷ g .length ∷ g .rate ∷ []
+
+-- a record's arrays have 8 patches and 6 segments, so that neither of these is read
+abbrev pub noPatch : Patch
+noPatch = record { cover = 0; soil = 0; area = 0 }
+
+abbrev pub noSegment : Segment
+noSegment = record { kind = 0; length = 0; rate = 0 }
+
+-- the numbers of the first k patches, of the first k segments
+unfoldable pub patchesTo : ℕ → List Patch → List ℕ
+patchesTo zero ps = []
+patchesTo (suc k) ps = patchesTo k ps ++ patchNumbers (getD ps k noPatch)
+
+unfoldable pub segmentsTo : ℕ → List Segment → List ℕ
+segmentsTo zero gs = []
+segmentsTo (suc k) gs = segmentsTo k gs ++ segmentNumbers (getD gs k noSegment)
+
+-- a record's 44 numbers: patch count, 8 patches, segment count, 6 segments
+unfoldable pub recordOf : Subarea → List ℕ
+recordOf s = (s .«patch_count» ∷ patchesTo 8 (s .patches)) ++ (s .«segment_count» ∷ segmentsTo 6 (s .segments))
+
+-- the records, one after the other
+unfoldable pub flatOf : List Subarea → List ℕ
+flatOf [] = []
+flatOf (s ∷ ss) = recordOf s ++ flatOf ss

@@ -1,0 +1,104 @@
+// Thin entries over a lent list of records: the list is gathered into flat numbers, and the engine works on those. A slice of
+// structs is proved by walks of the code by hand: `gather` and the entries here, and no more.
+use crate::gathering;
+use crate::gathering::Flat;
+use study::Setup;
+ghost use mathlib.Core.Path.{_≡_};
+ghost use lib.ListN.{length};
+ghost use Rattle.study.specs.Study.{answerOf, refusalOf, inflowRows, outflowRows, storageRows, after, refusalIn};
+ghost use Rattle.answers.specs.Setups.{setupOf};
+ghost use Rattle.answers.specs.StudyNumbers.{numbersOf};
+ghost use Rattle.host.specs.Flattened.{flatOf};
+ghost use Rattle.host.specs.Gathered.{used, handed};
+
+// A patch: area in hundredths of an acre.
+#[repr(C)]
+pub struct Patch {
+    pub cover: u64,
+    pub soil: u64,
+    pub area: u64,
+}
+
+// A segment: length in feet; rate is the slope in ten-thousandths, or the velocity in hundredths of a ft/s.
+#[repr(C)]
+pub struct Segment {
+    pub kind: u64,
+    pub length: u64,
+    pub rate: u64,
+}
+
+// A subarea's record, laid out as its 44 numbers are in a flat list.
+#[repr(C)]
+pub struct Subarea {
+    pub patch_count: u64,
+    pub patches: [Patch; 8],
+    pub segment_count: u64,
+    pub segments: [Segment; 6],
+}
+
+// How many numbers to hand on for n records: none for more than 16, so that the engine refuses them in its own order.
+fn used_by(n: usize) -> usize
+    ensures { λ r. ⌜ r ≡ used n ⌝ }
+{
+    if 16 < n { 0 } else { study::subarea::WIDTH * n }
+}
+
+// A study of n gathered records.
+fn study_of(
+    flat: Flat,
+    n: usize,
+    step: u64,
+    first: u64,
+    rain: &[u64],
+    pond: &[u64],
+    inflow: &mut [u64],
+    outflow: &mut [u64],
+    storage: &mut [u64],
+    answer: &mut [u64; 12],
+) -> u64
+    ensures { λ r. ⌜ r ≡ refusalIn (answerOf (setupOf step first) (now (rain .entry)) (handed flat n) (now (pond .entry)) (length (now (inflow .entry))) (length (now (outflow .entry))) (length (now (storage .entry)))) .number ⌝ }
+    ensures { λ _. ⌜ now (answer .exit) ≡ numbersOf (answerOf (setupOf step first) (now (rain .entry)) (handed flat n) (now (pond .entry)) (length (now (inflow .entry))) (length (now (outflow .entry))) (length (now (storage .entry)))) ⌝ }
+    ensures { λ _. ⌜ now (inflow .exit) ≡ after (refusalOf (setupOf step first) (now (rain .entry)) (handed flat n) (now (pond .entry)) (length (now (inflow .entry))) (length (now (outflow .entry))) (length (now (storage .entry)))) (inflowRows step (now (rain .entry)) (handed flat n) (length (now (inflow .entry)))) (now (inflow .entry)) ⌝ }
+    ensures { λ _. ⌜ now (outflow .exit) ≡ after (refusalOf (setupOf step first) (now (rain .entry)) (handed flat n) (now (pond .entry)) (length (now (inflow .entry))) (length (now (outflow .entry))) (length (now (storage .entry)))) (outflowRows step (now (rain .entry)) (handed flat n) (now (pond .entry)) (length (now (inflow .entry)))) (now (outflow .entry)) ⌝ }
+    ensures { λ _. ⌜ now (storage .exit) ≡ after (refusalOf (setupOf step first) (now (rain .entry)) (handed flat n) (now (pond .entry)) (length (now (inflow .entry))) (length (now (outflow .entry))) (length (now (storage .entry)))) (storageRows step (now (rain .entry)) (handed flat n) (now (pond .entry)) (length (now (inflow .entry)))) (now (storage .entry)) ⌝ }
+{
+    let numbers = flat.numbers;
+    let e = used_by(n);
+    let setup = Setup { step, first };
+    let own = study::run(setup, rain, &numbers[..e], pond, inflow, outflow, storage);
+    answers::put_study(own, answer)
+}
+
+// A study of a list of records: as `bt_study` of the list flattened.
+#[no_mangle]
+pub extern "C" fn bt_study_records(
+    step: u64,
+    first: u64,
+    rain: &[u64],
+    list: &[Subarea],
+    pond: &[u64],
+    inflow: &mut [u64],
+    outflow: &mut [u64],
+    storage: &mut [u64],
+    answer: &mut [u64; 12],
+) -> u64
+    ensures { λ r. ⌜ r ≡ refusalIn (answerOf (setupOf step first) (now (rain .entry)) (flatOf (now (list .entry))) (now (pond .entry)) (length (now (inflow .entry))) (length (now (outflow .entry))) (length (now (storage .entry)))) .number ⌝ }
+    ensures { λ _. ⌜ now (answer .exit) ≡ numbersOf (answerOf (setupOf step first) (now (rain .entry)) (flatOf (now (list .entry))) (now (pond .entry)) (length (now (inflow .entry))) (length (now (outflow .entry))) (length (now (storage .entry)))) ⌝ }
+    ensures { λ _. ⌜ now (inflow .exit) ≡ after (refusalOf (setupOf step first) (now (rain .entry)) (flatOf (now (list .entry))) (now (pond .entry)) (length (now (inflow .entry))) (length (now (outflow .entry))) (length (now (storage .entry)))) (inflowRows step (now (rain .entry)) (flatOf (now (list .entry))) (length (now (inflow .entry)))) (now (inflow .entry)) ⌝ }
+    ensures { λ _. ⌜ now (outflow .exit) ≡ after (refusalOf (setupOf step first) (now (rain .entry)) (flatOf (now (list .entry))) (now (pond .entry)) (length (now (inflow .entry))) (length (now (outflow .entry))) (length (now (storage .entry)))) (outflowRows step (now (rain .entry)) (flatOf (now (list .entry))) (now (pond .entry)) (length (now (inflow .entry)))) (now (outflow .entry)) ⌝ }
+    ensures { λ _. ⌜ now (storage .exit) ≡ after (refusalOf (setupOf step first) (now (rain .entry)) (flatOf (now (list .entry))) (now (pond .entry)) (length (now (inflow .entry))) (length (now (outflow .entry))) (length (now (storage .entry)))) (storageRows step (now (rain .entry)) (flatOf (now (list .entry))) (now (pond .entry)) (length (now (inflow .entry)))) (now (storage .entry)) ⌝ }
+{
+    let flat = gathering::gather(list);
+    study_of(
+        flat,
+        list.len(),
+        step,
+        first,
+        rain,
+        pond,
+        inflow,
+        outflow,
+        storage,
+        answer,
+    )
+}
