@@ -1,11 +1,13 @@
 /*
  * Bridletenon for C and C++ hosts. docs/SCOPE.md (document 01) has the rules, the units and the refusal numbers.
  *
- * Only whole numbers and pointers cross. A list is a pointer and a length, counted in numbers and not in bytes.
+ * Only whole numbers and pointers cross. A list is a pointer and a length, counted in numbers, or in records, and not in
+ * bytes.
  *
  * What the caller must see to, since no proof can:
  *   - no pointer is null, also where the length beside it is 0;
- *   - each list has as many numbers as its length says, and the answer has BT_ANSWER_LENGTH;
+ *   - each list has as many numbers as its length says (records, where it is one of bt_subarea), and the answer has
+ *     BT_ANSWER_LENGTH;
  *   - no lent list overlaps another, nor the answer;
  *   - nobody else writes to them while a call runs.
  * Any numbers and any lengths may stand in them: what is out of limits is refused.
@@ -36,6 +38,22 @@ enum {
     BT_MOST_SEGMENTS = 6,
     BT_SEGMENT_WIDTH = 3    /* kind, length in feet, slope in ten-thousandths or velocity in hundredths of a ft/s */
 };
+
+/* The same record by name: its numbers lie as the places above say, so that a list of either may be read as the other. */
+typedef struct bt_patch {
+    uint64_t cover, soil, area;
+} bt_patch;
+
+typedef struct bt_segment {
+    uint64_t kind, length, rate; /* rate: the slope or the velocity */
+} bt_segment;
+
+typedef struct bt_subarea {
+    uint64_t patch_count;
+    bt_patch patches[BT_MOST_PATCHES];
+    uint64_t segment_count;
+    bt_segment segments[BT_MOST_SEGMENTS];
+} bt_subarea;
 
 /* A pond is 2 to BT_MOST_POND_ROWS rows, end to end: stage, storage, discharge, in thousandths of a foot, of a cubic
    foot and of a cubic foot a second. */
@@ -79,6 +97,12 @@ uint64_t bt_study(uint64_t step, uint64_t first, const uint64_t *rain, size_t ra
                   size_t subareas_len, const uint64_t *pond, size_t pond_len, uint64_t *inflow, size_t inflow_len,
                   uint64_t *outflow, size_t outflow_len, uint64_t *storage, size_t storage_len,
                   uint64_t answer[BT_ANSWER_LENGTH]);
+
+/* The same study of a list of records: no record, or more than BT_MOST_SUBAREAS, is refusal 5 at 0. */
+uint64_t bt_study_records(uint64_t step, uint64_t first, const uint64_t *rain, size_t rain_len, const bt_subarea *list,
+                          size_t list_len, const uint64_t *pond, size_t pond_len, uint64_t *inflow, size_t inflow_len,
+                          uint64_t *outflow, size_t outflow_len, uint64_t *storage, size_t storage_len,
+                          uint64_t answer[BT_ANSWER_LENGTH]);
 
 #ifdef __cplusplus
 }
