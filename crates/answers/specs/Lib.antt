@@ -1,2 +1,3 @@
 pub mod Setups
 pub mod StudyNumbers
+pub mod MarkNumbers

@@ -1,9 +1,15 @@
 // Answers as arrays of numbers, for hosts in other languages. Each is written whole, refused or done.
+use marks::Mark;
+use marks::MarkAnswer;
+use marks::Point;
 use study::Figures;
 use study::StudyAnswer;
 ghost use mathlib.Core.Path.{_≡_};
 ghost use Rattle.study.specs.Study.{refusalIn};
+ghost use Rattle.marks.specs.ChartMarks as Marks;
+ghost use Rattle.marks.specs.ChartMarks.{kindOf, flowOf, stageOf, valuesIn};
 ghost use Rattle.answers.specs.StudyNumbers.{numbers, numbersOf};
+ghost use Rattle.answers.specs.MarkNumbers.{markNumbers, markValues, markNumbersOf};
 
 // Writes the twelve numbers of a study's answer and gives the first.
 fn write_study(number: u64, place: u64, values: Figures, answer: &mut [u64; 12]) -> u64
@@ -49,5 +55,87 @@ pub fn put_study(own: StudyAnswer, answer: &mut [u64; 12]) -> u64
             write_study(v.number, v.place, nothing, answer)
         }
         StudyAnswer::Done(f) => write_study(0, 0, f, answer),
+    }
+}
+
+fn kind_of(own: Mark) -> u64
+    ensures { λ r. ⌜ r ≡ kindOf own ⌝ }
+{
+    match own {
+        Mark::Nothing => 0,
+        Mark::Outflow(_) => 1,
+        Mark::Peak(_, _) => 2,
+    }
+}
+
+fn flow_of(own: Mark) -> f64
+    ensures { λ r. ⌜ r ≡ flowOf own ⌝ }
+{
+    match own {
+        Mark::Nothing => 0.0,
+        Mark::Outflow(o) => o,
+        Mark::Peak(o, _) => o,
+    }
+}
+
+fn stage_of(own: Mark) -> f64
+    ensures { λ r. ⌜ r ≡ stageOf own ⌝ }
+{
+    match own {
+        Mark::Nothing => 0.0,
+        Mark::Outflow(_) => 0.0,
+        Mark::Peak(_, s) => s,
+    }
+}
+
+// Writes the three numbers and the five doubles of a mark's answer and gives the first number.
+fn write_mark(
+    number: u64,
+    place: u64,
+    kind: u64,
+    flow: f64,
+    stage: f64,
+    point: Point,
+    answer: &mut [u64; 3],
+    values: &mut [f64; 5],
+) -> u64
+    ensures { λ r. ⌜ r ≡ number ⌝ }
+    ensures { λ _. ⌜ now (answer .exit) ≡ markNumbers number place kind ⌝ }
+    ensures { λ _. ⌜ now (values .exit) ≡ markValues flow stage point ⌝ }
+{
+    *answer = [number, place, kind];
+    *values = [flow, stage, point.row, point.seconds, point.outflow];
+    number
+}
+
+// A mark's answer. Gives the refusal number, 0 when done.
+pub fn put_mark(own: MarkAnswer, answer: &mut [u64; 3], values: &mut [f64; 5]) -> u64
+    ensures { λ r. ⌜ r ≡ Marks.refusalIn own .number ⌝ }
+    ensures { λ _. ⌜ now (answer .exit) ≡ markNumbersOf own ⌝ }
+    ensures { λ _. ⌜ now (values .exit) ≡ valuesIn own ⌝ }
+{
+    match own {
+        MarkAnswer::Refused(v) => {
+            let nowhere = Point {
+                row: 0.0,
+                seconds: 0.0,
+                outflow: 0.0,
+            };
+            write_mark(v.number, v.place, 0, 0.0, 0.0, nowhere, answer, values)
+        }
+        MarkAnswer::Done(w) => {
+            let mark = w.mark;
+            let point = w.point;
+            write_mark(
+                0,
+                0,
+                kind_of(mark),
+                flow_of(mark),
+                stage_of(mark),
+                point,
+                answer,
+                values,
+            )
+        }
     }
 }

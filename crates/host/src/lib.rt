@@ -8,6 +8,9 @@ ghost use lib.ListN.{length};
 ghost use Rattle.study.specs.Study.{answerOf, refusalOf, inflowRows, outflowRows, storageRows, after, refusalIn};
 ghost use Rattle.answers.specs.Setups.{setupOf};
 ghost use Rattle.answers.specs.StudyNumbers.{numbersOf};
+ghost use Rattle.answers.specs.MarkNumbers.{markNumbersOf};
+ghost use Rattle.marks.specs.ChartMarks as Marks;
+ghost use Rattle.marks.specs.ChartMarks.{valuesIn};
 
 // A study. The answer is written whole in either case; a refused study leaves the three row lists as they were.
 #[no_mangle]
@@ -31,4 +34,26 @@ pub extern "C" fn bt_study(
     let setup = Setup { step, first };
     let own = study::run(setup, rain, subareas, pond, inflow, outflow, storage);
     answers::put_study(own, answer)
+}
+
+// A row's mark. Both arrays are written whole in either case.
+#[no_mangle]
+pub extern "C" fn bt_mark(
+    step: u64,
+    first: u64,
+    pond: &[u64],
+    inflow: &[u64],
+    outflow: &[u64],
+    storage: &[u64],
+    row: u64,
+    answer: &mut [u64; 3],
+    values: &mut [f64; 5],
+) -> u64
+    ensures { λ r. ⌜ r ≡ Marks.refusalIn (Marks.answerOf (setupOf step first) (now (pond .entry)) (length (now (inflow .entry))) (now (outflow .entry)) (now (storage .entry)) row) .number ⌝ }
+    ensures { λ _. ⌜ now (answer .exit) ≡ markNumbersOf (Marks.answerOf (setupOf step first) (now (pond .entry)) (length (now (inflow .entry))) (now (outflow .entry)) (now (storage .entry)) row) ⌝ }
+    ensures { λ _. ⌜ now (values .exit) ≡ valuesIn (Marks.answerOf (setupOf step first) (now (pond .entry)) (length (now (inflow .entry))) (now (outflow .entry)) (now (storage .entry)) row) ⌝ }
+{
+    let setup = Setup { step, first };
+    let own = marks::mark_row(setup, pond, inflow, outflow, storage, row);
+    answers::put_mark(own, answer, values)
 }
