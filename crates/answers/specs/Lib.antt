@@ -1,3 +1,4 @@
 pub mod Setups
 pub mod StudyNumbers
+pub mod EditNumbers
 pub mod MarkNumbers

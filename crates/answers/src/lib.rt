@@ -1,15 +1,37 @@
 // Answers as arrays of numbers, for hosts in other languages. Each is written whole, refused or done.
+use edit::EditAnswer;
+use edit::Edited;
 use marks::Mark;
 use marks::MarkAnswer;
 use marks::Point;
 use study::Figures;
 use study::StudyAnswer;
 ghost use mathlib.Core.Path.{_≡_};
-ghost use Rattle.study.specs.Study.{refusalIn};
+ghost use Rattle.study.specs.Study.{refusalIn, nothing};
+ghost use Rattle.edit.specs.Edit.{editRefusalIn, editValuesIn};
 ghost use Rattle.marks.specs.ChartMarks as Marks;
 ghost use Rattle.marks.specs.ChartMarks.{kindOf, flowOf, stageOf, valuesIn};
 ghost use Rattle.answers.specs.StudyNumbers.{numbers, numbersOf};
+ghost use Rattle.answers.specs.EditNumbers.{editNumbers, editNumbersOf, changesOf};
 ghost use Rattle.answers.specs.MarkNumbers.{markNumbers, markValues, markNumbersOf};
+
+// The figures of a refused answer.
+fn no_figures() -> Figures
+    ensures { λ r. ⌜ r ≡ nothing ⌝ }
+{
+    Figures {
+        inflow: 0,
+        released: 0,
+        storage: 0,
+        peak: 0,
+        row: 0,
+        stage: 0,
+        surfaces: 0,
+        districts: 0,
+        lots: 0,
+        rural: 0,
+    }
+}
 
 // Writes the twelve numbers of a study's answer and gives the first.
 fn write_study(number: u64, place: u64, values: Figures, answer: &mut [u64; 12]) -> u64
@@ -39,22 +61,61 @@ pub fn put_study(own: StudyAnswer, answer: &mut [u64; 12]) -> u64
     ensures { λ _. ⌜ now (answer .exit) ≡ numbersOf own ⌝ }
 {
     match own {
-        StudyAnswer::Refused(v) => {
-            let nothing = Figures {
-                inflow: 0,
-                released: 0,
-                storage: 0,
-                peak: 0,
-                row: 0,
-                stage: 0,
-                surfaces: 0,
-                districts: 0,
-                lots: 0,
-                rural: 0,
-            };
-            write_study(v.number, v.place, nothing, answer)
-        }
+        StudyAnswer::Refused(v) => write_study(v.number, v.place, no_figures(), answer),
         StudyAnswer::Done(f) => write_study(0, 0, f, answer),
+    }
+}
+
+// Writes the thirteen numbers and the two changes of an edit's answer and gives the first number.
+fn write_edit(
+    number: u64,
+    place: u64,
+    values: Edited,
+    answer: &mut [u64; 13],
+    changes: &mut [i64; 2],
+) -> u64
+    ensures { λ r. ⌜ r ≡ number ⌝ }
+    ensures { λ _. ⌜ now (answer .exit) ≡ editNumbers number place values ⌝ }
+    ensures { λ _. ⌜ now (changes .exit) ≡ changesOf values ⌝ }
+{
+    let own = values.figures;
+    *answer = [
+        number,
+        place,
+        own.inflow,
+        own.released,
+        own.storage,
+        own.peak,
+        own.row,
+        own.stage,
+        own.surfaces,
+        own.districts,
+        own.lots,
+        own.rural,
+        values.changed,
+    ];
+    *changes = [values.peak, values.released];
+    number
+}
+
+// An edit's answer. Gives the refusal number, 0 when done.
+pub fn put_edit(own: EditAnswer, answer: &mut [u64; 13], changes: &mut [i64; 2]) -> u64
+    ensures { λ r. ⌜ r ≡ editRefusalIn own .number ⌝ }
+    ensures { λ _. ⌜ now (answer .exit) ≡ editNumbersOf own ⌝ }
+    ensures { λ _. ⌜ now (changes .exit) ≡ changesOf (editValuesIn own) ⌝ }
+{
+    match own {
+        EditAnswer::Refused(v) => {
+            let none = no_figures();
+            let nothing = Edited {
+                figures: none,
+                changed: 0,
+                peak: 0,
+                released: 0,
+            };
+            write_edit(v.number, v.place, nothing, answer, changes)
+        }
+        EditAnswer::Done(e) => write_edit(0, 0, e, answer, changes),
     }
 }
 

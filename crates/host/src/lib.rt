@@ -7,7 +7,9 @@ ghost use mathlib.Core.Path.{_≡_};
 ghost use lib.ListN.{length};
 ghost use Rattle.study.specs.Study.{answerOf, refusalOf, inflowRows, outflowRows, storageRows, after, refusalIn};
 ghost use Rattle.answers.specs.Setups.{setupOf};
+ghost use Rattle.edit.specs.Edit.{editAnswer, inflowAfter, outflowAfter, storageAfter, editRefusalIn, editValuesIn};
 ghost use Rattle.answers.specs.StudyNumbers.{numbersOf};
+ghost use Rattle.answers.specs.EditNumbers.{editNumbersOf, changesOf};
 ghost use Rattle.answers.specs.MarkNumbers.{markNumbersOf};
 ghost use Rattle.marks.specs.ChartMarks as Marks;
 ghost use Rattle.marks.specs.ChartMarks.{valuesIn};
@@ -34,6 +36,45 @@ pub extern "C" fn bt_study(
     let setup = Setup { step, first };
     let own = study::run(setup, rain, subareas, pond, inflow, outflow, storage);
     answers::put_study(own, answer)
+}
+
+// An edit: one subarea replaced. The answer and the changes are written whole in either case; a refused edit leaves the three
+// row lists as they were, and a done one the rows before the first changed row.
+#[no_mangle]
+pub extern "C" fn bt_edit(
+    step: u64,
+    first: u64,
+    rain: &[u64],
+    subareas: &[u64],
+    pond: &[u64],
+    inflow: &mut [u64],
+    outflow: &mut [u64],
+    storage: &mut [u64],
+    place: u64,
+    fresh: &[u64; study::subarea::WIDTH],
+    answer: &mut [u64; 13],
+    changes: &mut [i64; 2],
+) -> u64
+    ensures { λ r. ⌜ r ≡ editRefusalIn (editAnswer (setupOf step first) (now (rain .entry)) (now (subareas .entry)) (now (pond .entry)) (now (inflow .entry)) (now (outflow .entry)) (now (storage .entry)) place (now (fresh .entry))) .number ⌝ }
+    ensures { λ _. ⌜ now (answer .exit) ≡ editNumbersOf (editAnswer (setupOf step first) (now (rain .entry)) (now (subareas .entry)) (now (pond .entry)) (now (inflow .entry)) (now (outflow .entry)) (now (storage .entry)) place (now (fresh .entry))) ⌝ }
+    ensures { λ _. ⌜ now (changes .exit) ≡ changesOf (editValuesIn (editAnswer (setupOf step first) (now (rain .entry)) (now (subareas .entry)) (now (pond .entry)) (now (inflow .entry)) (now (outflow .entry)) (now (storage .entry)) place (now (fresh .entry)))) ⌝ }
+    ensures { λ _. ⌜ now (inflow .exit) ≡ inflowAfter (setupOf step first) (now (rain .entry)) (now (subareas .entry)) (now (pond .entry)) (now (inflow .entry)) (now (outflow .entry)) (now (storage .entry)) place (now (fresh .entry)) ⌝ }
+    ensures { λ _. ⌜ now (outflow .exit) ≡ outflowAfter (setupOf step first) (now (rain .entry)) (now (subareas .entry)) (now (pond .entry)) (now (inflow .entry)) (now (outflow .entry)) (now (storage .entry)) place (now (fresh .entry)) ⌝ }
+    ensures { λ _. ⌜ now (storage .exit) ≡ storageAfter (setupOf step first) (now (rain .entry)) (now (subareas .entry)) (now (pond .entry)) (now (inflow .entry)) (now (outflow .entry)) (now (storage .entry)) place (now (fresh .entry)) ⌝ }
+{
+    let setup = Setup { step, first };
+    let own = edit::run(
+        setup,
+        rain,
+        subareas,
+        pond,
+        inflow,
+        outflow,
+        storage,
+        place,
+        fresh,
+    );
+    answers::put_edit(own, answer, changes)
 }
 
 // A row's mark. Both arrays are written whole in either case.

@@ -3,14 +3,15 @@ use mathlib.Core.Path.{sym, ap, _∙_}
 use borrow.Author.Needs.{needs}
 use Rattle.study.specs.declared.StudyAnswer.{StudyAnswer}
 use Rattle.study.specs.Study.{refusalIn}
-use Rattle.answers.specs.StudyNumbers.{numbersOf}
+use Rattle.answers.specs.StudyNumbers.{numbers, numbersOf}
 use Rattle.answers.proofs.put_study.Statement.{statement}
 use Rattle.answers.proofs.put_study.Tie as tie
 
 refused : tie.Need-returns
 refused c =
-    let e = c .before .before .before .own .given .1 in
-    (c .write-study .ensures .0 ∙ sym (ap (λ (a : StudyAnswer). refusalIn a .number) e), c .write-study .ensures .1 ∙ sym (ap numbersOf e))
+    let e = c .before .before .before .before .own .given .1 in
+    let v = c .before .before .before .before .own .given .0 .0 in
+    (c .write-study .ensures .0 ∙ sym (ap (λ (a : StudyAnswer). refusalIn a .number) e), c .write-study .ensures .1 ∙ ap (numbers (v .number) (v .place)) (c .before .before .no-figures .ensures) ∙ sym (ap numbersOf e))
 
 done : tie.Need-returns-2
 done c =
@@ -19,4 +20,4 @@ done c =
 
 pub put-study-spec : {M : Type 1} → statement M
 put-study-spec =
-    tie.close (tie.spec (λ c. search needs) (λ c κs. search needs) (λ c. search needs) (λ c κs. search needs) refused done)
+    tie.close (tie.spec (λ c. search needs) (λ c κs. search needs) (λ c κs. search needs) (λ c. search needs) (λ c κs. search needs) refused done)
