@@ -2,6 +2,7 @@ pub mod Stores
 pub mod Handing
 pub mod Refused
 pub mod StudyPromise
+pub mod EditPromise
 pub mod Saying
 pub mod OneSaid
 pub mod RecordAnswers

@@ -6,8 +6,10 @@ use study::Setup;
 ghost use mathlib.Core.Path.{_≡_};
 ghost use lib.ListN.{length};
 ghost use Rattle.study.specs.Study.{answerOf, refusalOf, inflowRows, outflowRows, storageRows, after, refusalIn};
+ghost use Rattle.edit.specs.Edit.{editAnswer, inflowAfter, outflowAfter, storageAfter, editRefusalIn, editValuesIn};
 ghost use Rattle.answers.specs.Setups.{setupOf};
 ghost use Rattle.answers.specs.StudyNumbers.{numbersOf};
+ghost use Rattle.answers.specs.EditNumbers.{editNumbersOf, changesOf};
 ghost use Rattle.host.specs.Flattened.{flatOf};
 ghost use Rattle.host.specs.Gathered.{used, handed};
 
@@ -100,5 +102,86 @@ pub extern "C" fn bt_study_records(
         outflow,
         storage,
         answer,
+    )
+}
+
+// An edit of n gathered records.
+fn edit_of(
+    flat: Flat,
+    n: usize,
+    step: u64,
+    first: u64,
+    rain: &[u64],
+    pond: &[u64],
+    inflow: &mut [u64],
+    outflow: &mut [u64],
+    storage: &mut [u64],
+    place: u64,
+    fresh: &[u64; study::subarea::WIDTH],
+    answer: &mut [u64; 13],
+    changes: &mut [i64; 2],
+) -> u64
+    ensures { λ r. ⌜ r ≡ editRefusalIn (editAnswer (setupOf step first) (now (rain .entry)) (handed flat n) (now (pond .entry)) (now (inflow .entry)) (now (outflow .entry)) (now (storage .entry)) place (now (fresh .entry))) .number ⌝ }
+    ensures { λ _. ⌜ now (answer .exit) ≡ editNumbersOf (editAnswer (setupOf step first) (now (rain .entry)) (handed flat n) (now (pond .entry)) (now (inflow .entry)) (now (outflow .entry)) (now (storage .entry)) place (now (fresh .entry))) ⌝ }
+    ensures { λ _. ⌜ now (changes .exit) ≡ changesOf (editValuesIn (editAnswer (setupOf step first) (now (rain .entry)) (handed flat n) (now (pond .entry)) (now (inflow .entry)) (now (outflow .entry)) (now (storage .entry)) place (now (fresh .entry)))) ⌝ }
+    ensures { λ _. ⌜ now (inflow .exit) ≡ inflowAfter (setupOf step first) (now (rain .entry)) (handed flat n) (now (pond .entry)) (now (inflow .entry)) (now (outflow .entry)) (now (storage .entry)) place (now (fresh .entry)) ⌝ }
+    ensures { λ _. ⌜ now (outflow .exit) ≡ outflowAfter (setupOf step first) (now (rain .entry)) (handed flat n) (now (pond .entry)) (now (inflow .entry)) (now (outflow .entry)) (now (storage .entry)) place (now (fresh .entry)) ⌝ }
+    ensures { λ _. ⌜ now (storage .exit) ≡ storageAfter (setupOf step first) (now (rain .entry)) (handed flat n) (now (pond .entry)) (now (inflow .entry)) (now (outflow .entry)) (now (storage .entry)) place (now (fresh .entry)) ⌝ }
+{
+    let numbers = flat.numbers;
+    let e = used_by(n);
+    let setup = Setup { step, first };
+    let own = edit::run(
+        setup,
+        rain,
+        &numbers[..e],
+        pond,
+        inflow,
+        outflow,
+        storage,
+        place,
+        fresh,
+    );
+    answers::put_edit(own, answer, changes)
+}
+
+// An edit of a list of records, which is only read: as `bt_edit` of the list flattened.
+#[no_mangle]
+pub extern "C" fn bt_edit_records(
+    step: u64,
+    first: u64,
+    rain: &[u64],
+    list: &[Subarea],
+    pond: &[u64],
+    inflow: &mut [u64],
+    outflow: &mut [u64],
+    storage: &mut [u64],
+    place: u64,
+    fresh: &[u64; study::subarea::WIDTH],
+    answer: &mut [u64; 13],
+    changes: &mut [i64; 2],
+) -> u64
+    ensures { λ r. ⌜ r ≡ editRefusalIn (editAnswer (setupOf step first) (now (rain .entry)) (flatOf (now (list .entry))) (now (pond .entry)) (now (inflow .entry)) (now (outflow .entry)) (now (storage .entry)) place (now (fresh .entry))) .number ⌝ }
+    ensures { λ _. ⌜ now (answer .exit) ≡ editNumbersOf (editAnswer (setupOf step first) (now (rain .entry)) (flatOf (now (list .entry))) (now (pond .entry)) (now (inflow .entry)) (now (outflow .entry)) (now (storage .entry)) place (now (fresh .entry))) ⌝ }
+    ensures { λ _. ⌜ now (changes .exit) ≡ changesOf (editValuesIn (editAnswer (setupOf step first) (now (rain .entry)) (flatOf (now (list .entry))) (now (pond .entry)) (now (inflow .entry)) (now (outflow .entry)) (now (storage .entry)) place (now (fresh .entry)))) ⌝ }
+    ensures { λ _. ⌜ now (inflow .exit) ≡ inflowAfter (setupOf step first) (now (rain .entry)) (flatOf (now (list .entry))) (now (pond .entry)) (now (inflow .entry)) (now (outflow .entry)) (now (storage .entry)) place (now (fresh .entry)) ⌝ }
+    ensures { λ _. ⌜ now (outflow .exit) ≡ outflowAfter (setupOf step first) (now (rain .entry)) (flatOf (now (list .entry))) (now (pond .entry)) (now (inflow .entry)) (now (outflow .entry)) (now (storage .entry)) place (now (fresh .entry)) ⌝ }
+    ensures { λ _. ⌜ now (storage .exit) ≡ storageAfter (setupOf step first) (now (rain .entry)) (flatOf (now (list .entry))) (now (pond .entry)) (now (inflow .entry)) (now (outflow .entry)) (now (storage .entry)) place (now (fresh .entry)) ⌝ }
+{
+    let flat = gathering::gather(list);
+    edit_of(
+        flat,
+        list.len(),
+        step,
+        first,
+        rain,
+        pond,
+        inflow,
+        outflow,
+        storage,
+        place,
+        fresh,
+        answer,
+        changes,
     )
 }
