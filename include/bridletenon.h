@@ -1,14 +1,14 @@
 /*
  * Bridletenon for C and C++ hosts. docs/SCOPE.md (document 01) has the rules, the units and the refusal numbers.
  *
- * Only whole numbers and pointers cross. A list is a pointer and a length, counted in numbers, or in records, and not in
+ * Only whole numbers and pointers cross. A list is a pointer and a length, which counts numbers, or records, and not
  * bytes.
  *
  * What the caller must see to, since no proof can:
  *   - no pointer is null, also where the length beside it is 0;
- *   - each list has as many numbers as its length says (records, where it is one of bt_subarea), and the answer has
- *     BT_ANSWER_LENGTH;
- *   - no lent list overlaps another, nor the answer;
+ *   - each list has as many numbers as its length says (records, where it is one of bt_subarea), and each answer as
+ *     many as its parameter says;
+ *   - no lent list overlaps another, nor an answer;
  *   - nobody else writes to them while a call runs.
  * Any numbers and any lengths may stand in them: what is out of limits is refused.
  */
@@ -21,6 +21,8 @@
 #ifdef __cplusplus
 extern "C" {
 #endif
+
+/* ---- What is lent */
 
 /* A subarea is a record of BT_WIDTH numbers; a list of subareas is 1 to BT_MOST_SUBAREAS records, end to end. Patches
    and segments past the record's counts are not read, and may hold anything. */
@@ -39,13 +41,18 @@ enum {
     BT_SEGMENT_WIDTH = 3    /* kind, length in feet, slope in ten-thousandths or velocity in hundredths of a ft/s */
 };
 
-/* The same record by name: its numbers lie as the places above say, so that a list of either may be read as the other. */
+/* The same record by the names of its numbers, which lie as the places above say: a list of either may be read as the
+   other, and a pointer to one, cast to const uint64_t *, will do wherever BT_WIDTH numbers are asked for. */
 typedef struct bt_patch {
-    uint64_t cover, soil, area;
+    uint64_t cover; /* code, 1 to 22 */
+    uint64_t soil;  /* group, 1 to 4 for A to D */
+    uint64_t area;  /* hundredths of an acre, 1 to 200,000 */
 } bt_patch;
 
 typedef struct bt_segment {
-    uint64_t kind, length, rate; /* rate: the slope or the velocity */
+    uint64_t kind;   /* 1 unpaved, 2 paved, 3 given velocity */
+    uint64_t length; /* feet, 1 to 4,000 */
+    uint64_t rate;   /* 1 to 10,000: slope in ten-thousandths, or velocity in hundredths of a foot a second */
 } bt_segment;
 
 typedef struct bt_subarea {
@@ -68,27 +75,64 @@ enum { BT_MOST_ROWS = 2000 };
 /* The greatest number that the last row may have, 2^53 - 1: a double holds every row number. */
 #define BT_LAST_ROW_NUMBER UINT64_C(9007199254740991)
 
-/* Places in an answer. Refused: the refusal number and its place, then zeros. Done: two zeros, then the figures. */
+/* ---- What is given back */
+
+/* Places in the answer of a study, and in that of an edit, which has one more. Refused: the refusal number and its
+   place, then zeros. Done: two zeros, then the figures. Rows count from 1. */
 enum {
-    BT_REFUSAL,
-    BT_PLACE,
-    BT_INFLOW,     /* total inflow volume */
-    BT_RELEASED,   /* total released */
-    BT_STORAGE,    /* storage after the last row */
-    BT_PEAK,       /* greatest outflow */
-    BT_ROW,        /* the first row that has it, from 1 */
-    BT_STAGE,      /* greatest stage of a row */
-    BT_SURFACES,   /* areas by class of cover, in hundredths of an acre */
-    BT_DISTRICTS,
-    BT_LOTS,
-    BT_RURAL,
-    BT_ANSWER_LENGTH
+    BT_REFUSAL,       /* 0 when done */
+    BT_PLACE,         /* where: see the refusal numbers */
+    BT_INFLOW,        /* total inflow, in thousandths of a cubic foot */
+    BT_RELEASED,      /* total released, in thousandths of a cubic foot */
+    BT_STORAGE,       /* storage after the last row, in thousandths of a cubic foot */
+    BT_PEAK,          /* greatest outflow, in thousandths of a cubic foot a second */
+    BT_ROW,           /* the first row that has it */
+    BT_STAGE,         /* greatest stage of a row, in thousandths of a foot */
+    BT_SURFACES,      /* area of cover codes 1 to 8, in hundredths of an acre */
+    BT_DISTRICTS,     /* of 9 and 10 */
+    BT_LOTS,          /* of 11 to 16 */
+    BT_RURAL,         /* of 17 to 22 */
+    BT_ANSWER_LENGTH,
+
+    BT_CHANGED = BT_ANSWER_LENGTH, /* edit: the first row whose inflow volume differs, 0 if none */
+    BT_EDIT_ANSWER_LENGTH
 };
 
+/* Places in the changes of an edit: new less old, with its sign. Refused: zeros. */
+enum {
+    BT_PEAK_CHANGE,     /* of the greatest outflow */
+    BT_RELEASED_CHANGE, /* of the total released */
+    BT_CHANGES_LENGTH
+};
+
+/* Refusal numbers, and after the semicolon what the place beside each of them is. Subareas, rows and pond rows count
+   from 1, rain entries from 0. Each number is given for the first place that has the fault. */
+enum {
+    BT_REFUSED_ROWS = 1,          /* the row lists differ in length, or are not 1 to 2,000 rows long; 0 */
+    BT_REFUSED_STEP = 2,          /* the step is odd, or not 60 to 3,600; 0 */
+    BT_REFUSED_RAIN = 3,          /* not 2 to m + 1 entries; 0. Entry 0 not 0, or one above 30,000 or falling; entry */
+    BT_REFUSED_ROW_NUMBERS = 4,   /* the last row number is above BT_LAST_ROW_NUMBER; 0 */
+    BT_REFUSED_SUBAREAS = 5,      /* not 1 to 16 whole records; 0 */
+    BT_REFUSED_PATCHES = 6,       /* a patch count, or a patch within it, out of limits; subarea */
+    BT_REFUSED_SEGMENTS = 7,      /* a segment count, or a segment within it, out of limits; subarea */
+    BT_REFUSED_AREA = 8,          /* all areas together above 200,000; 0 */
+    BT_REFUSED_TIME = 9,          /* the time of concentration is above 36,000; subarea */
+    BT_REFUSED_LONG_STEP = 10,    /* the step is above the time to peak; subarea */
+    BT_REFUSED_SHORT_STEP = 11,   /* five times to peak are above 512 steps; subarea */
+    BT_REFUSED_POND = 12,         /* not 2 to 64 whole rows; 0. A row out of limits or out of order; pond row */
+    BT_REFUSED_POND_STORAGE = 13, /* storage less than half the step times discharge; pond row */
+    BT_REFUSED_FULL = 14,         /* more water than the pond's last row holds; row */
+    BT_REFUSED_EDIT = 15,         /* edit: the place is not in the list of subareas; 0 */
+    BT_REFUSED_INFLOW = 16,       /* edit: an inflow row below the old record's part, or above 217,800,000,000; row */
+    BT_REFUSED_STANDING = 17      /* edit: outflow above the last discharge, storage below half the step times outflow,
+                                     or the two together above what the pond's last row holds; row */
+};
+
+/* ---- Calls. Each gives the refusal number, 0 when done, and writes its answers whole either way. */
+
 /*
- * Works a study. Gives the refusal number, 0 when done, and writes the whole answer either way. A done study fills
- * inflow (thousandths of a cubic foot), outflow (thousandths of a cubic foot a second) and storage (thousandths of a
- * cubic foot), a number for each row; a refused one leaves the three as they were.
+ * Works a study. A done study fills inflow (thousandths of a cubic foot), outflow (thousandths of a cubic foot a
+ * second) and storage (thousandths of a cubic foot), a number for each row; a refused one leaves them as they were.
  *
  * step: seconds, even, 60 to 3600. first: the number of the first row. rain: cumulative, thousandths of an inch.
  * A length of subareas that is no multiple of BT_WIDTH is refusal 5 at 0; of pond, of BT_POND_WIDTH: 12 at 0.
@@ -103,6 +147,21 @@ uint64_t bt_study_records(uint64_t step, uint64_t first, const uint64_t *rain, s
                           size_t list_len, const uint64_t *pond, size_t pond_len, uint64_t *inflow, size_t inflow_len,
                           uint64_t *outflow, size_t outflow_len, uint64_t *storage, size_t storage_len,
                           uint64_t answer[BT_ANSWER_LENGTH]);
+
+/*
+ * Alters one subarea of a study that stands in the row lists: the old record's parts are taken from the inflow rows,
+ * the new one's added, and the pond routed again from the first changed row. Rows before it are not written; where no
+ * row is changed, none is. A refused edit leaves the three lists as they were. On rows that a study or an edit left,
+ * with the list they were worked from, it refuses as a new study of the altered list would, or leaves its very rows.
+ *
+ * As for bt_study, and: subareas, the list as it stands, which is only read: after a done edit the caller puts the new
+ * record into it. place: which of them, from 1. fresh: the new record.
+ */
+uint64_t bt_edit(uint64_t step, uint64_t first, const uint64_t *rain, size_t rain_len, const uint64_t *subareas,
+                 size_t subareas_len, const uint64_t *pond, size_t pond_len, uint64_t *inflow, size_t inflow_len,
+                 uint64_t *outflow, size_t outflow_len, uint64_t *storage, size_t storage_len, uint64_t place,
+                 const uint64_t fresh[BT_WIDTH], uint64_t answer[BT_EDIT_ANSWER_LENGTH],
+                 int64_t changes[BT_CHANGES_LENGTH]);
 
 #ifdef __cplusplus
 }

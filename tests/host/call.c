@@ -1,124 +1,105 @@
-#define _DEFAULT_SOURCE
 #include "call.h"
 
-#include <stdio.h>
-#include <stdlib.h>
 #include <string.h>
-#include <sys/mman.h>
-#include <unistd.h>
-
-/* Words that no study would write: one kind before it runs, another around the lists. */
-static u64 paint(size_t i)
-{
-    return 0xa5c3000000000000u + i;
-}
-
-static u64 guard(size_t i)
-{
-    return 0x5e1f000000000000u ^ i;
-}
-
-/* ---- Lists as they are lent */
-
-static size_t map_bytes(void)
-{
-    size_t page = (size_t)sysconf(_SC_PAGESIZE), need = (ROOM + 2 * GUARD) * sizeof(u64);
-    return (need + page - 1) / page * page;
-}
-
-static void open_list(struct lent_list *l)
-{
-    size_t bytes = map_bytes(), page = (size_t)sysconf(_SC_PAGESIZE);
-    char *base = mmap(NULL, bytes + page, PROT_READ | PROT_WRITE, MAP_PRIVATE | MAP_ANONYMOUS, -1, 0);
-    if (base == MAP_FAILED || mprotect(base + bytes, page, PROT_NONE) != 0) {
-        perror("host: memory for the lists");
-        exit(2);
-    }
-    l->base = (u64 *)base;
-}
 
 void call_open(struct call *c)
 {
-    open_list(&c->rain);
-    open_list(&c->subareas);
-    open_list(&c->pond);
-    open_list(&c->inflow);
-    open_list(&c->outflow);
-    open_list(&c->storage);
-    open_list(&c->answer);
+    struct lent_list *lists[] = { &c->rain,    &c->subareas, &c->pond,   &c->inflow, &c->outflow,
+                                  &c->storage, &c->fresh,    &c->answer, &c->changes };
+    for (size_t i = 0; i < sizeof lists / sizeof *lists; i++)
+        lend_open(lists[i]);
 }
 
-/* Places a list of 'len' words, guards it, and fills it from 'from' or, where that is null, with paint. */
-static void lend(struct lent_list *l, const u64 *from, size_t len, bool tight)
-{
-    l->len = len;
-    l->after = tight ? 0 : GUARD;
-    l->at = l->base + map_bytes() / sizeof(u64) - l->after - len;
-    for (size_t i = 1; i <= GUARD; i++)
-        *(l->at - i) = guard(i);
-    for (size_t i = 0; i < l->after; i++)
-        l->at[len + i] = guard(i);
-    for (size_t i = 0; i < len; i++)
-        l->at[i] = from ? from[i] : paint(i);
-}
+/* ---- What is lent */
 
-void call_lend(struct call *c, const struct site *s, bool tight)
+static void lend_inputs(struct call *c, const struct site *s, bool tight)
 {
     lend(&c->rain, s->rain.at, s->rain.len, tight);
     lend(&c->subareas, s->subareas.at, s->subareas.len, tight);
     lend(&c->pond, s->pond.at, s->pond.len, tight);
+}
+
+void lend_study(struct call *c, const struct site *s, bool tight)
+{
+    lend_inputs(c, s, tight);
     lend(&c->inflow, NULL, s->inflow, tight);
     lend(&c->outflow, NULL, s->outflow, tight);
     lend(&c->storage, NULL, s->storage, tight);
     lend(&c->answer, NULL, BT_ANSWER_LENGTH, tight);
 }
 
-/* ---- The two calls */
+void lend_edit(struct call *c, const struct edit *e, bool tight)
+{
+    lend_inputs(c, &e->site, tight);
+    lend(&c->inflow, e->found.inflow, e->site.inflow, tight);
+    lend(&c->outflow, e->found.outflow, e->site.outflow, tight);
+    lend(&c->storage, e->found.storage, e->site.storage, tight);
+    lend(&c->fresh, e->fresh, BT_WIDTH, tight);
+    lend(&c->answer, NULL, BT_EDIT_ANSWER_LENGTH, tight);
+    lend(&c->changes, NULL, BT_CHANGES_LENGTH, tight);
+}
 
-void call_engine(struct call *c, const struct site *s)
+/* ---- The calls */
+
+void engine_study(struct call *c, const struct site *s)
 {
     c->gave = bt_study(s->step, s->first, c->rain.at, c->rain.len, c->subareas.at, c->subareas.len, c->pond.at,
                        c->pond.len, c->inflow.at, c->inflow.len, c->outflow.at, c->outflow.len, c->storage.at,
                        c->storage.len, c->answer.at);
 }
 
-void call_reference(struct result *r, const struct site *s)
+void engine_study_records(struct call *c, const struct site *s)
+{
+    c->gave = bt_study_records(s->step, s->first, c->rain.at, c->rain.len, (const bt_subarea *)c->subareas.at,
+                               c->subareas.len / BT_WIDTH, c->pond.at, c->pond.len, c->inflow.at, c->inflow.len,
+                               c->outflow.at, c->outflow.len, c->storage.at, c->storage.len, c->answer.at);
+}
+
+void study_due(struct result *r, const struct site *s)
 {
     r->gave = reference_study(s->step, s->first, s->rain.at, s->rain.len, s->subareas.at, s->subareas.len, s->pond.at,
-                              s->pond.len, r->inflow, s->inflow, r->outflow, s->outflow, r->storage, s->storage,
-                              r->answer);
+                              s->pond.len, r->rows.inflow, s->inflow, r->rows.outflow, s->outflow, r->rows.storage,
+                              s->storage, r->answer);
 }
 
-/* ---- What may be wrong */
-
-static bool guards_hold(const struct lent_list *l)
+void engine_edit(struct call *c, const struct edit *e)
 {
-    for (size_t i = 1; i <= GUARD; i++)
-        if (*(l->at - i) != guard(i))
-            return false;
-    for (size_t i = 0; i < l->after; i++)
-        if (l->at[l->len + i] != guard(i))
-            return false;
-    return true;
+    const struct site *s = &e->site;
+    c->gave = bt_edit(s->step, s->first, c->rain.at, c->rain.len, c->subareas.at, c->subareas.len, c->pond.at,
+                      c->pond.len, c->inflow.at, c->inflow.len, c->outflow.at, c->outflow.len, c->storage.at,
+                      c->storage.len, e->place, c->fresh.at, c->answer.at, (int64_t *)c->changes.at);
 }
 
-static bool all_guards_hold(const struct call *c)
+void edit_due(struct result *r, const struct edit *e)
 {
-    return guards_hold(&c->rain) && guards_hold(&c->subareas) && guards_hold(&c->pond) && guards_hold(&c->inflow) &&
-           guards_hold(&c->outflow) && guards_hold(&c->storage) && guards_hold(&c->answer);
+    const struct site *s = &e->site;
+    r->rows = e->found;
+    r->gave = reference_edit(s->step, s->first, s->rain.at, s->rain.len, s->subareas.at, s->subareas.len, s->pond.at,
+                             s->pond.len, r->rows.inflow, s->inflow, r->rows.outflow, s->outflow, r->rows.storage,
+                             s->storage, e->place, e->fresh, r->answer, r->changes);
 }
 
-static bool same(const struct lent_list *l, const u64 *expected)
+/* ---- What may be wrong with any call */
+
+static const char *inputs_fault(const struct call *c, const struct site *s)
 {
-    return memcmp(l->at, expected, l->len * sizeof(u64)) == 0;
+    if (!guards_hold(&c->rain) || !guards_hold(&c->subareas) || !guards_hold(&c->pond) || !guards_hold(&c->inflow) ||
+        !guards_hold(&c->outflow) || !guards_hold(&c->storage) || !guards_hold(&c->answer))
+        return "written outside a list";
+    if (!holds(&c->rain, s->rain.at) || !holds(&c->subareas, s->subareas.at) || !holds(&c->pond, s->pond.at))
+        return "an input was changed";
+    return NULL;
 }
 
-static bool painted(const struct lent_list *l)
+static const char *rows_fault(const struct call *c, const struct columns *due)
 {
-    for (size_t i = 0; i < l->len; i++)
-        if (l->at[i] != paint(i))
-            return false;
-    return true;
+    if (!holds(&c->inflow, due->inflow))
+        return "inflow rows differ";
+    if (!holds(&c->outflow, due->outflow))
+        return "outflow rows differ";
+    if (!holds(&c->storage, due->storage))
+        return "storage rows differ";
+    return NULL;
 }
 
 /* Through every row: the inflow so far is what is stored and what was released. Of the engine's rows alone. */
@@ -136,32 +117,85 @@ static bool balanced(const struct call *c, u64 half)
     return true;
 }
 
-static const char *done_fault(const struct call *c, const struct site *s, const struct result *r)
+/* ---- A study */
+
+const char *study_fault(const struct call *c, const struct site *s, const struct result *due)
 {
-    if (!same(&c->inflow, r->inflow))
-        return "inflow rows differ";
-    if (!same(&c->outflow, r->outflow))
-        return "outflow rows differ";
-    if (!same(&c->storage, r->storage))
-        return "storage rows differ";
-    if (!balanced(c, s->step / 2))
-        return "the rows do not balance";
+    const char *fault = inputs_fault(c, s);
+    if (fault)
+        return fault;
+    if (c->gave != due->gave)
+        return "the number given back differs";
+    if (!holds(&c->answer, due->answer))
+        return "the answer differs";
+    if (due->gave != 0 && (!holds_paint(&c->inflow) || !holds_paint(&c->outflow) || !holds_paint(&c->storage)))
+        return "refused, but a row was written";
+    if (due->gave == 0 && (fault = rows_fault(c, &due->rows)))
+        return fault;
+    return due->gave != 0 || balanced(c, s->step / 2) ? NULL : "the rows do not balance";
+}
+
+/* ---- An edit */
+
+static bool same_words(const u64 *a, const u64 *b, size_t count)
+{
+    return memcmp(a, b, count * sizeof *a) == 0;
+}
+
+/* Of the engine's answer and rows alone: the first changed row is the first whose inflow differs, and the rows before
+   it are word by word as they were found; all of them where none is changed. */
+static const char *changed_fault(const struct call *c, const struct columns *found)
+{
+    size_t m = c->inflow.len, differs = 0;
+    while (differs < m && c->inflow.at[differs] == found->inflow[differs])
+        differs++;
+    if (c->answer.at[BT_CHANGED] != (differs == m ? 0 : differs + 1))
+        return "the first changed row is not the first whose inflow differs";
+    if (!same_words(c->outflow.at, found->outflow, differs) || !same_words(c->storage.at, found->storage, differs))
+        return "a row before the first changed one was written";
     return NULL;
 }
 
-const char *call_fault(const struct call *c, const struct site *s, const struct result *r)
+const char *edit_fault(const struct call *c, const struct edit *e, const struct result *due)
 {
-    if (c->gave != r->gave)
+    const char *fault = inputs_fault(c, &e->site);
+    if (fault)
+        return fault;
+    if (!guards_hold(&c->fresh) || !guards_hold(&c->changes))
+        return "written outside the new record or the changes";
+    if (!holds(&c->fresh, e->fresh))
+        return "the new record was changed";
+    if (c->gave != due->gave)
         return "the number given back differs";
-    if (!same(&c->answer, r->answer))
+    if (!holds(&c->answer, due->answer))
         return "the answer differs";
-    if (!all_guards_hold(c))
-        return "written outside a list";
-    if (!same(&c->rain, s->rain.at) || !same(&c->subareas, s->subareas.at) || !same(&c->pond, s->pond.at))
-        return "an input was changed";
-    if (r->gave == 0)
-        return done_fault(c, s, r);
-    if (!painted(&c->inflow) || !painted(&c->outflow) || !painted(&c->storage))
+    if (!holds(&c->changes, (const u64 *)due->changes))
+        return "the changes differ";
+    if (due->gave != 0 && rows_fault(c, &e->found))
         return "refused, but a row was written";
+    if (due->gave == 0 && (fault = changed_fault(c, &e->found)))
+        return fault;
+    return rows_fault(c, &due->rows);
+}
+
+const char *standing_fault(const struct call *c, const struct edit *e, const u64 *before, const struct result *anew)
+{
+    const u64 *after = c->answer.at;
+    const int64_t *changes = (const int64_t *)c->changes.at;
+    if (c->gave == BT_REFUSED_EDIT)
+        return NULL;
+    if (c->gave != anew->gave)
+        return "refused otherwise than a new study of the altered list";
+    if (!same_words(after, anew->answer, BT_ANSWER_LENGTH))
+        return "other figures, or another place, than a new study of the altered list";
+    if (c->gave != 0)
+        return NULL;
+    if (rows_fault(c, &anew->rows))
+        return "other rows than a new study of the altered list";
+    if (!balanced(c, e->site.step / 2))
+        return "the rows do not balance";
+    if (changes[BT_PEAK_CHANGE] != (int64_t)(after[BT_PEAK] - before[BT_PEAK]) ||
+        changes[BT_RELEASED_CHANGE] != (int64_t)(after[BT_RELEASED] - before[BT_RELEASED]))
+        return "the changes are not the new figures less those before";
     return NULL;
 }

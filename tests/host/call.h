@@ -1,35 +1,45 @@
-/* One call of the engine on a site, between guards, and the same study by the reference. */
+/* One call of the engine between guards, and the same by the reference. */
 #ifndef CALL_H
 #define CALL_H
 
-#include "site.h"
+#include "edit.h"
+#include "lend.h"
 
-enum { GUARD = 16 }; /* guard words before a list, and after it */
-
-/* A list as it is lent: in a map of its own that ends at a page nobody may read. */
-struct lent_list {
-    u64 *base, *at;
-    size_t len, after; /* words between the list's end and that page: GUARD, or none */
-};
-
+/* What is lent to a call. One list serves every function that has it. */
 struct call {
-    struct lent_list rain, subareas, pond, inflow, outflow, storage, answer;
+    struct lent_list rain, subareas, pond, inflow, outflow, storage, fresh, answer, changes;
     u64 gave;
 };
 
 struct result {
-    u64 gave, answer[BT_ANSWER_LENGTH];
-    u64 inflow[ROOM], outflow[ROOM], storage[ROOM];
+    u64 gave, answer[BT_EDIT_ANSWER_LENGTH];
+    int64_t changes[BT_CHANGES_LENGTH];
+    struct columns rows;
 };
 
 void call_open(struct call *c);
 
-/* Lends the site's lists; 'tight': each ends at the unreadable page, with no guard words after it. */
-void call_lend(struct call *c, const struct site *s, bool tight);
-void call_engine(struct call *c, const struct site *s);
-void call_reference(struct result *r, const struct site *s);
+/* ---- A study of a site */
+
+/* 'tight': each list ends at the unreadable page, with no guard words after it. */
+void lend_study(struct call *c, const struct site *s, bool tight);
+void engine_study(struct call *c, const struct site *s);
+void engine_study_records(struct call *c, const struct site *s); /* the list is whole records */
+void study_due(struct result *r, const struct site *s);
 
 /* What is wrong with a call that was made, or null. */
-const char *call_fault(const struct call *c, const struct site *s, const struct result *r);
+const char *study_fault(const struct call *c, const struct site *s, const struct result *due);
+
+/* ---- An edit */
+
+void lend_edit(struct call *c, const struct edit *e, bool tight);
+void engine_edit(struct call *c, const struct edit *e);
+void edit_due(struct result *r, const struct edit *e);
+
+const char *edit_fault(const struct call *c, const struct edit *e, const struct result *due);
+
+/* The same of an edit of rows that stand on their list: 'before' has the figures they had, 'anew' is the reference's
+   new study of the altered list. */
+const char *standing_fault(const struct call *c, const struct edit *e, const u64 *before, const struct result *anew);
 
 #endif

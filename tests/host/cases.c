@@ -1,20 +1,17 @@
 #include "cases.h"
 
+#include "faults.h"
+#include "take.h"
+
 #define COUNT(a) (sizeof(a) / sizeof *(a))
 
 static const u64 MOST = UINT64_MAX;
-
-/* The first, a middle and the last of 'count' places, from 0. */
-static size_t place(int where, size_t count)
-{
-    return where == 0 ? 0 : where == 1 ? count / 2 : count - 1;
-}
 
 static void take_with(const char *kind, struct site *s, u64 *at, u64 value)
 {
     u64 was = *at;
     *at = value;
-    take_case(kind, s);
+    take_site(kind, s);
     *at = was;
 }
 
@@ -164,7 +161,7 @@ static void segments_at_random(struct site *s, struct prng *r)
         segment[0] = between(r, 1, 2);
         segment[1] = between(r, 1, 4000);
         segment[2] = between(r, 1, chance(r, 50) ? 100 : 10000);
-        take_case("a shallow segment", s);
+        take_site("a shallow segment", s);
     }
 }
 
@@ -209,14 +206,14 @@ static void row_lengths(struct site *s, struct prng *r)
             s->inflow = which & 1 ? other : m;
             s->outflow = which & 2 ? other : m;
             s->storage = which & 4 ? other : m;
-            take_case("lengths of the row lists", s);
+            take_site("lengths of the row lists", s);
         }
     }
     set_rows(s, 12);
     s->storage = 0;
-    take_case("no storage rows", s);
+    take_site("no storage rows", s);
     s->storage = 2000;
-    take_case("many storage rows", s);
+    take_site("many storage rows", s);
 }
 
 static void rain_lengths(struct site *s, struct prng *r)
@@ -231,7 +228,7 @@ static void rain_lengths(struct site *s, struct prng *r)
         set_rows(s, m);
         for (size_t j = 0; j < COUNT(lengths); j++) {
             s->rain.len = lengths[j];
-            take_case("length of the rain", s);
+            take_site("length of the rain", s);
         }
     }
 }
@@ -244,10 +241,10 @@ static void subarea_lengths(struct site *s, struct prng *r)
             static const size_t extra[] = { 0, 1, 22, 42, 43 };
             s->subareas.len = records * BT_WIDTH + extra[more];
             if (s->subareas.len <= 18 * BT_WIDTH)
-                take_case("length of the subareas", s);
+                take_site("length of the subareas", s);
         }
     s->subareas.len = 48 * BT_WIDTH;
-    take_case("length of the subareas", s);
+    take_site("length of the subareas", s);
 }
 
 static void pond_lengths(struct site *s, struct prng *r)
@@ -255,10 +252,10 @@ static void pond_lengths(struct site *s, struct prng *r)
     plain_site(s, r, 2, 66);
     for (size_t len = 0; len <= 198; len++) {
         s->pond.len = len;
-        take_case("length of the pond", s);
+        take_site("length of the pond", s);
     }
     s->pond.len = ROOM;
-    take_case("length of the pond", s);
+    take_site("length of the pond", s);
 }
 
 /* ---- Rain entries */
@@ -282,11 +279,11 @@ static void rain_entries(struct site *s, struct prng *r)
     s->rain.at[6] = was;
     for (size_t t = 1; t < s->rain.len; t++)
         s->rain.at[t] = 30000;
-    take_case("all the rain at once", s);
+    take_site("all the rain at once", s);
     take_with("all the rain at once, and too much", s, &s->rain.at[8], 30001);
     for (size_t t = 1; t < s->rain.len; t++)
         s->rain.at[t] = 0;
-    take_case("no rain", s);
+    take_site("no rain", s);
 }
 
 /* ---- Total area */
@@ -308,10 +305,10 @@ static void total_areas(struct site *s, struct prng *r)
         plain_site(s, r, counts[i], 5);
         for (u64 total = 199998; total <= 200002; total++) {
             share_area(s, total);
-            take_case("total area at its limit", s);
+            take_site("total area at its limit", s);
         }
         share_area(s, 8 * 200000 * counts[i]);
-        take_case("every patch of the greatest area", s);
+        take_site("every patch of the greatest area", s);
     }
     lone_site(s);
     for (u64 area = 199999; area <= 200001; area++)
@@ -327,10 +324,10 @@ static void try_concentration(const char *kind, struct site *s, u64 step, u64 se
     for (int where = 0; where < 3; where++) {
         set_all_concentrations(s, others);
         set_concentration(record_at(s, place(where, 5)), seconds);
-        take_case(kind, s);
+        take_site(kind, s);
     }
     set_all_concentrations(s, seconds);
-    take_case(kind, s);
+    take_site(kind, s);
 }
 
 static void concentrations(struct site *s, struct prng *r)
@@ -339,12 +336,6 @@ static void concentrations(struct site *s, struct prng *r)
     plain_site(s, r, 5, 7);
     for (size_t i = 0; i < COUNT(seconds); i++)
         try_concentration("Tc at its limits", s, 212, seconds[i], 1000);
-}
-
-/* The least Tc whose Tp is at least this. */
-static u64 concentration_of(u64 peak)
-{
-    return (5 * peak + 2) / 3;
 }
 
 static void peaks(struct site *s, struct prng *r)
@@ -371,7 +362,7 @@ static void weights_at_random(struct site *s, struct prng *r)
         u64 peak = between(r, least, most < 21600 ? most : 21600);
         set_concentration(record_at(s, 0), concentration_of(peak));
         set_rows(s, 5 * peak / s->step + 2);
-        take_case("every weight in the rows", s);
+        take_site("every weight in the rows", s);
     }
 }
 
@@ -407,7 +398,7 @@ static void means(struct site *s)
         for (u64 two = 0; two <= one; two++) {
             set_cover(s, 0, one);
             set_cover(s, 1, two);
-            take_case("the mean of two covers", s);
+            take_site("the mean of two covers", s);
         }
 }
 
@@ -455,7 +446,7 @@ static void greatest_pond(struct site *s, struct prng *r)
     last[1] = 1000000000000;
     last[2] = 10000000;
     pond_row_at(s, 0)[0] = 999999;
-    take_case("the greatest pond", s);
+    take_site("the greatest pond", s);
     for (size_t column = 0; column < 3; column++)
         take_with("past the greatest pond", s, &last[column], last[column] + 1);
     take_with("the first stage as high as the last", s, &pond_row_at(s, 0)[0], 1000000);
@@ -478,7 +469,7 @@ static void pond_storages(struct site *s, struct prng *r)
                 for (size_t j = row; j < 7; j++)
                     pond_row_at(s, j)[2] = discharge;
                 pond_row_at(s, row)[1] = s->step / 2 * discharge + more - 1;
-                take_case("storage beside h times discharge", s);
+                take_site("storage beside h times discharge", s);
             }
 }
 
@@ -560,134 +551,29 @@ static void close_lines(struct site *s, struct prng *r)
 
 /* ---- Two faults at once */
 
-static void fault_rows(struct site *s, int where)
-{
-    if (where == 0)
-        s->inflow++;
-    else if (where == 1)
-        s->outflow--;
-    else
-        s->storage = 0;
-}
-
-static void fault_step(struct site *s, int where)
-{
-    s->step = where == 0 ? 58 : where == 1 ? s->step + 1 : 3602;
-}
-
-static void fault_rain(struct site *s, int where)
-{
-    size_t t = place(where, s->rain.len);
-    s->rain.at[t] = t == 0 ? 1 : where == 1 ? 30001 : s->rain.at[t - 1] - 1;
-}
-
-static void fault_last_number(struct site *s, int where)
-{
-    s->first = where == 0 ? BT_LAST_ROW_NUMBER : where == 1 ? MOST : (u64)1 << 63;
-}
-
-static void fault_count(struct site *s, int where)
-{
-    s->subareas.len = where == 0 ? 0 : where == 1 ? s->subareas.len + 1 : 17 * BT_WIDTH;
-}
-
-static void fault_patch(struct site *s, int where)
-{
-    u64 *record = record_at(s, place(where, 5));
-    if (where == 0)
-        record[BT_PATCH_COUNT] = 9;
-    else
-        patch_at(record, 7)[where] = where == 1 ? 5 : 200001;
-}
-
-static void fault_segment(struct site *s, int where)
-{
-    u64 *record = record_at(s, place(where, 5));
-    if (where == 0)
-        record[BT_SEGMENT_COUNT] = 0;
-    else
-        segment_at(record, 0)[where] = where == 1 ? 4001 : 10001;
-}
-
-static void fault_area(struct site *s, int where)
-{
-    patch_at(record_at(s, place(where, 5)), 3)[2] = 200000;
-}
-
-static void fault_concentration(struct site *s, int where)
-{
-    set_concentration(record_at(s, place(where, 5)), 36001);
-}
-
-static void fault_step_above_peak(struct site *s, int where)
-{
-    s->step = 300;
-    set_concentration(record_at(s, place(where, 5)), 360);
-}
-
-static void fault_weights(struct site *s, int where)
-{
-    s->step = 120;
-    set_concentration(record_at(s, place(where, 5)), 21000);
-}
-
-static void fault_pond(struct site *s, int where)
-{
-    u64 *row = pond_row_at(s, place(where, 7));
-    if (where == 0)
-        row[1] = 1;
-    else if (where == 1)
-        row[0] = row[-3];
-    else
-        row[2] = 10000001;
-}
-
-static void fault_pond_storage(struct site *s, int where)
-{
-    size_t row = 1 + place(where, 6);
-    u64 discharge = pond_row_at(s, row)[1] / (s->step / 2) + 1;
-    for (size_t i = row; i < 7; i++)
-        if (pond_row_at(s, i)[2] < discharge)
-            pond_row_at(s, i)[2] = discharge;
-}
-
-static void fault_full(struct site *s, int where)
-{
-    for (size_t i = 0; i < 7; i++) {
-        pond_row_at(s, i)[1] = i * (where == 0 ? 1 : where == 1 ? 1000 : 30000);
-        pond_row_at(s, i)[2] = 0;
-    }
-}
-
-static void (*const FAULTS[])(struct site *, int) = {
-    fault_rows,          fault_step,            fault_rain,    fault_last_number, fault_count,
-    fault_patch,         fault_segment,         fault_area,    fault_concentration, fault_step_above_peak,
-    fault_weights,       fault_pond,            fault_pond_storage, fault_full,
-};
-
 /* The later number's fault goes in first, since some faults make room for others. Each takes each place. */
 static void two_faults(struct site *s, struct prng *r)
 {
-    for (size_t one = 0; one < COUNT(FAULTS); one++)
-        for (size_t two = one; two < COUNT(FAULTS); two++)
+    for (size_t one = 0; one < STUDY_FAULTS; one++)
+        for (size_t two = one; two < STUDY_FAULTS; two++)
             for (int where = 0; where < 9; where++) {
                 *s = (struct site){ 0 };
                 plain_site(s, r, 5, 7);
                 FAULTS[two](s, where / 3);
                 FAULTS[one](s, where % 3);
-                take_case("two faults", s);
+                take_site("two faults", s);
             }
 }
 
 static void every_fault_from_one_on(struct site *s, struct prng *r)
 {
-    for (size_t one = 0; one < COUNT(FAULTS); one++)
+    for (size_t one = 0; one < STUDY_FAULTS; one++)
         for (int where = 0; where < 3; where++) {
             *s = (struct site){ 0 };
             plain_site(s, r, 5, 7);
-            for (size_t other = COUNT(FAULTS); other-- > one;)
+            for (size_t other = STUDY_FAULTS; other-- > one;)
                 FAULTS[other](s, where);
-            take_case("every fault from one number on", s);
+            take_site("every fault from one number on", s);
         }
 }
 
@@ -706,7 +592,7 @@ static void row_counts(struct site *s, struct prng *r)
             s->rain.len = n + 1;
             for (size_t t = 1; t <= n; t++)
                 s->rain.at[t] = 30000 * t / n;
-            take_case("few rows and many", s);
+            take_site("few rows and many", s);
         }
     }
 }

@@ -4,9 +4,6 @@
 
 #include "site.h"
 
-/* Takes a case: runs it, compares, counts. Whoever calls chosen_cases has it. */
-void take_case(const char *kind, const struct site *s);
-
 void chosen_cases(u64 seed);
 
 #endif

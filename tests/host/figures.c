@@ -82,6 +82,59 @@ static void limits(void)
     figure("last row number 9007199254740992", refusal_of(60, 360, 0, 9007199254740992), 4);
 }
 
+/* ---- Edits of one or two rows in a pond of the greatest size: docs/DECISIONS.md, readings of open places */
+
+struct small_edit {
+    size_t rows;
+    u64 old_cover, new_cover;
+    u64 inflow[2], outflow[2], storage[2];
+    u64 answer[BT_EDIT_ANSWER_LENGTH];
+    int64_t changes[BT_CHANGES_LENGTH];
+};
+
+static u64 edit_small(struct small_edit *e)
+{
+    static const u64 rain[] = { 0, 700 }, pond[] = { 0, 0, 0, 1000000, 1000000000000, 10000000 };
+    const u64 old[BT_WIDTH] = { 1, e->old_cover, 1, 1, [BT_SEGMENT_COUNT] = 1, 3, 360, 100 };
+    const u64 fresh[BT_WIDTH] = { 1, e->new_cover, 1, 1, [BT_SEGMENT_COUNT] = 1, 3, 360, 100 };
+    return reference_edit(60, 1, rain, 2, old, BT_WIDTH, pond, 6, e->inflow, e->rows, e->outflow, e->rows, e->storage,
+                          e->rows, 1, fresh, e->answer, e->changes);
+}
+
+/* None changed: the figures of the rows as found, though no study left them. */
+static void nothing_changed(void)
+{
+    struct small_edit e = { .rows = 2, .old_cover = 19, .new_cover = 19, .inflow = { 5, 5 }, .outflow = { 7, 7 },
+                            .storage = { 1000, 210 } };
+    figure("an edit that changes nothing", edit_small(&e), 0);
+    figure("its total inflow", e.answer[BT_INFLOW], 10);
+    figure("its total released", e.answer[BT_RELEASED], 630);
+    figure("its last storage", e.answer[BT_STORAGE], 210);
+    figure("its peak outflow", e.answer[BT_PEAK], 7);
+    figure("its first changed row", e.answer[BT_CHANGED], 0);
+    figure("its changes", (u64)(e.changes[BT_PEAK_CHANGE] | e.changes[BT_RELEASED_CHANGE]), 0);
+    figure("its last row", e.storage[1], 210);
+}
+
+static void found_rows(void)
+{
+    struct small_edit full = { .rows = 1, .old_cover = 19, .new_cover = 4, .inflow = { 217800000000 } };
+    figure("16 is of the row as found", edit_small(&full), 0);
+    figure("the new row passes its bound", full.answer[BT_INFLOW], 217800000645);
+    full.inflow[0] = 217800000001;
+    figure("a row above the bound", edit_small(&full), 16);
+    struct small_edit last = { .rows = 2, .old_cover = 19, .new_cover = 4, .outflow = { 0, 10000001 } };
+    figure("17 is of every row, also of one about to be written", edit_small(&last), 17);
+    figure("its place", last.answer[BT_PLACE], 2);
+    struct small_edit both = { .rows = 2, .old_cover = 4, .new_cover = 4, .inflow = { 645, 0 },
+                               .outflow = { 10000001 } };
+    figure("16 of all rows before 17 of any", edit_small(&both), 16);
+    figure("its place", both.answer[BT_PLACE], 2);
+    struct small_edit wraps = { .rows = 1, .old_cover = 19, .new_cover = 19, .outflow = { 1000 },
+                                .storage = { UINT64_MAX - 29999 } };
+    figure("a sum that wraps to 0", edit_small(&wraps), 17);
+}
+
 int figures_wrong(void)
 {
     tried = wrong = 0;
@@ -89,6 +142,8 @@ int figures_wrong(void)
     pond_rows_of_three();
     pond_ends();
     limits();
+    nothing_changed();
+    found_rows();
     return wrong;
 }
 

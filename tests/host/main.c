@@ -2,8 +2,9 @@
  * Holds the engine's C interface to an independent reading of document 01, on chosen, random and large cases.
  *
  *   --seed N    another seed (default 1)
- *   --cases N   how many random small cases (default 50000)
- *   --large N   how many large ones (default 50)
+ *   --cases N   how many random small sites, each a study and an edit (default 50000)
+ *   --chains N  how many chains: a study, then 3 to 8 edits, each of what the one before left (default 6000)
+ *   --large N   how many large studies, each with an edit (default 200)
  *   --only N    case N alone, and all of it printed
  *   --bench     times the engine and the reference instead
  */
@@ -14,162 +15,65 @@
 #include <string.h>
 #include <unistd.h>
 
-#include "call.h"
 #include "cases.h"
+#include "edits.h"
 #include "figures.h"
 #include "measure.h"
+#include "stack.h"
+#include "take.h"
+#include "tally.h"
 
-enum { LAST_REFUSAL = 14 };
-
-_Static_assert(BT_ANSWER_LENGTH == 12, "the answer of a study has 12 numbers");
+_Static_assert(BT_ANSWER_LENGTH == 12 && BT_EDIT_ANSWER_LENGTH == 13 && BT_CHANGES_LENGTH == 2, "answers");
+_Static_assert(sizeof(bt_subarea) == BT_WIDTH * sizeof(u64), "a record is 44 numbers");
+_Static_assert(offsetof(bt_subarea, patch_count) == BT_PATCH_COUNT * sizeof(u64), "patch count");
+_Static_assert(offsetof(bt_subarea, patches) == BT_PATCHES * sizeof(u64), "patches");
+_Static_assert(offsetof(bt_subarea, segment_count) == BT_SEGMENT_COUNT * sizeof(u64), "segment count");
+_Static_assert(offsetof(bt_subarea, segments) == BT_SEGMENTS * sizeof(u64), "segments");
+_Static_assert(sizeof(bt_patch) == BT_PATCH_WIDTH * sizeof(u64) && sizeof(bt_segment) == BT_SEGMENT_WIDTH * sizeof(u64),
+               "patches and segments");
 _Static_assert(BT_SEGMENTS + BT_MOST_SEGMENTS * BT_SEGMENT_WIDTH == BT_WIDTH, "a record has 44 numbers");
 
-static struct {
-    u64 seed, cases, large, only; /* only: 0 for all */
-    bool bench;
-    u64 number, differ;
-    u64 ended[LAST_REFUSAL + 1]; /* cases by refusal number, 0 for done */
-    u64 full[3];                 /* those of refusal 14 by row: the first, one between, the last */
-} run = { .seed = 1, .cases = 50000, .large = 50 };
+/* ---- Running cases. Random ones start from the number of their first case. */
 
-static struct call call;
-static struct result expected;
-
-/* ---- Printing a case */
-
-static void print_list(const char *name, const u64 *at, size_t len, size_t width)
-{
-    printf("  %s, %zu numbers:", name, len);
-    for (size_t i = 0; i < len; i++)
-        printf("%s%" PRIu64, i % width == 0 ? "\n    " : " ", at[i]);
-    printf("\n");
-}
-
-static void print_site(const struct site *s)
-{
-    printf("  step %" PRIu64 ", first %" PRIu64 ", row lists of %zu, %zu, %zu\n", s->step, s->first, s->inflow,
-           s->outflow, s->storage);
-    print_list("rain", s->rain.at, s->rain.len, 20);
-    print_list("subareas", s->subareas.at, s->subareas.len, BT_WIDTH);
-    print_list("pond", s->pond.at, s->pond.len, BT_POND_WIDTH);
-}
-
-/* The rows from the first that differs on, a few of them; all of them for a case that was asked for. */
-static void print_rows(const char *name, const u64 *got, const u64 *due, size_t len)
-{
-    size_t k = 0;
-    while (!run.only && k < len && got[k] == due[k])
-        k++;
-    for (size_t end = run.only ? len : k + 5; k < len && k < end; k++)
-        printf("  %s row %zu: engine %" PRIu64 ", reference %" PRIu64 "\n", name, k + 1, got[k], due[k]);
-}
-
-static void print_answers(void)
-{
-    printf("  engine gives back %" PRIu64 ", reference %" PRIu64 "\n", call.gave, expected.gave);
-    print_list("engine's answer", call.answer.at, BT_ANSWER_LENGTH, BT_ANSWER_LENGTH);
-    print_list("reference's answer", expected.answer, BT_ANSWER_LENGTH, BT_ANSWER_LENGTH);
-    if (call.gave != 0 || expected.gave != 0)
-        return;
-    print_rows("inflow", call.inflow.at, expected.inflow, call.inflow.len);
-    print_rows("outflow", call.outflow.at, expected.outflow, call.outflow.len);
-    print_rows("storage", call.storage.at, expected.storage, call.storage.len);
-}
-
-static void print_case(const char *kind, const char *fault, const struct site *s)
-{
-    printf("case %" PRIu64 " of seed %" PRIu64 " (%s): %s\n", run.number, run.seed, kind, fault ? fault : "agrees");
-    printf("  again: --seed %" PRIu64 " --cases %" PRIu64 " --large %" PRIu64 " --only %" PRIu64 "\n", run.seed,
-           run.cases, run.large, run.number);
-    print_site(s);
-    print_answers();
-}
-
-/* ---- Running cases */
-
-static bool wanted(u64 number)
-{
-    return run.only == 0 || run.only == number;
-}
-
-static void count_end(const struct site *s)
-{
-    u64 row = expected.answer[BT_PLACE];
-    run.ended[expected.gave]++;
-    if (expected.gave == LAST_REFUSAL)
-        run.full[row == 1 ? 0 : row < s->inflow ? 1 : 2]++;
-}
-
-void take_case(const char *kind, const struct site *s)
-{
-    if (!wanted(++run.number))
-        return;
-    call_lend(&call, s, run.number % 2 == 0);
-    call_engine(&call, s);
-    call_reference(&expected, s);
-    count_end(s);
-    const char *fault = call_fault(&call, s, &expected);
-    if (fault)
-        run.differ++;
-    if (run.only || (fault && run.differ == 1))
-        print_case(kind, fault, s);
-}
-
-static void take_random(const char *kind, void (*make)(struct site *, struct prng *))
+static void random_site(const char *kind, void (*make)(struct site *, struct prng *))
 {
     static struct site s;
-    if (!wanted(run.number + 1)) {
-        run.number++;
+    if (!wanted(SITE_CASES))
         return;
-    }
     struct prng r = prng_of(run.seed, run.number + 1);
     s = (struct site){ 0 };
     make(&s, &r);
-    take_case(kind, &s);
+    take_site(kind, &s);
+}
+
+static void random_chain(u64 edits)
+{
+    struct prng r = prng_of(run.seed, run.number + 1);
+    if (wanted(1 + edits))
+        chain_of_edits(&r, edits);
+}
+
+static void random_large(void)
+{
+    struct prng r = prng_of(run.seed, run.number + 1);
+    if (wanted(2))
+        large_edit(&r);
 }
 
 static void run_cases(void)
 {
     chosen_cases(run.seed);
+    chosen_edits(run.seed);
     printf("%" PRIu64 " chosen cases\n", run.number);
     for (u64 i = 0; i < run.large; i++)
-        take_random("large", large_site);
-    for (u64 i = 0; i < run.cases; i++)
+        random_large();
+    for (u64 i = 0; i < run.chains; i++)
+        random_chain(3 + i % 6);
+    for (u64 i = 0; i < run.sites; i++)
         if (i % 2 == 0)
-            take_random("likely", likely_site);
+            random_site("likely", likely_site);
         else
-            take_random("hostile", hostile_site);
-}
-
-/* ---- The end of a run */
-
-static bool print_table(void)
-{
-    bool all = run.full[0] != 0 && run.full[1] != 0 && run.full[2] != 0;
-    printf("done       %8" PRIu64 "\n", run.ended[0]);
-    for (int n = 1; n <= LAST_REFUSAL; n++)
-        printf("refusal %2d %8" PRIu64 "\n", n, run.ended[n]);
-    printf("of 14: first row %" PRIu64 ", between %" PRIu64 ", last row %" PRIu64 "\n", run.full[0], run.full[1],
-           run.full[2]);
-    for (int n = 0; n <= LAST_REFUSAL; n++)
-        all = all && run.ended[n] != 0;
-    if (!all)
-        printf("something in this table is 0: the cases do not reach it\n");
-    return all;
-}
-
-static void print_stack(void)
-{
-    static struct site s;
-    size_t most = 0;
-    for (u64 i = 1; i <= 8; i++) {
-        struct prng r = prng_of(run.seed, i);
-        s = (struct site){ 0 };
-        (i % 2 == 0 ? likely_site : large_site)(&s, &r);
-        size_t used = stack_of_call(&call, &s);
-        most = used > most ? used : most;
-    }
-    printf("stack: one call takes %zu bytes%s\n", most, most > STACK_UNSEEN ? "" : " or less");
+            random_site("hostile", hostile_site);
 }
 
 static void say_where(int signal_number)
@@ -194,7 +98,7 @@ static void watch_signals(void)
 
 static void usage(void)
 {
-    fprintf(stderr, "words: --seed N, --cases N, --large N, --only N, --bench\n");
+    fprintf(stderr, "words: --seed N, --cases N, --chains N, --large N, --only N, --bench\n");
     exit(2);
 }
 
@@ -209,35 +113,38 @@ static u64 number_of(const char *word)
     return n;
 }
 
-static void read_words(char **words)
+/* Gives whether the benchmark is asked for. */
+static bool read_words(char **words)
 {
     static const struct {
         const char *word;
         u64 *to;
-    } known[] = {
-        { "--seed", &run.seed }, { "--cases", &run.cases }, { "--large", &run.large }, { "--only", &run.only }
-    };
+    } known[] = { { "--seed", &run.seed },   { "--cases", &run.sites }, { "--chains", &run.chains },
+                  { "--large", &run.large }, { "--only", &run.only } };
+    size_t count = sizeof known / sizeof *known;
+    bool bench = false;
     while (*++words) {
         size_t i = 0;
         if (strcmp(*words, "--bench") == 0) {
-            run.bench = true;
+            bench = true;
             continue;
         }
-        while (i < 4 && strcmp(*words, known[i].word) != 0)
+        while (i < count && strcmp(*words, known[i].word) != 0)
             i++;
-        if (i == 4)
+        if (i == count)
             usage();
         *known[i].to = number_of(*++words);
     }
+    return bench;
 }
 
 int main(int count, char **words)
 {
     (void)count;
     setvbuf(stdout, NULL, _IOLBF, 0);
-    read_words(words);
+    bool bench = read_words(words);
     call_open(&call);
-    if (run.bench) {
+    if (bench) {
         benchmark(&call, run.seed);
         return 0;
     }
@@ -245,9 +152,9 @@ int main(int count, char **words)
     printf("reference: %d figures of document 01, %d do not hold\n", figures_tried(), wrong);
     watch_signals();
     run_cases();
-    bool all = run.only != 0 || print_table();
+    bool all = run.only != 0 || print_tally();
     if (!run.only)
-        print_stack();
-    printf("host: %" PRIu64 " cases, %" PRIu64 " differ\n", run.only ? 1 : run.number, run.differ);
+        print_stack(run.seed);
+    printf("host: %" PRIu64 " cases, %" PRIu64 " differ\n", run.taken, run.differ);
     return run.differ != 0 || wrong != 0 || !all;
 }

@@ -1,17 +1,13 @@
 /* The rules of document 01, section by section; each function has the rule's own words beside it. */
-#include "reference.h"
+#include "rules.h"
 
-#include <stdbool.h>
 #include <string.h>
 
 enum {
-    WIDTH = 44,        /* numbers in a subarea's record */
     PATCHES_AT = 1,    /* after the patch count at 0 */
     SEGMENTS_AT = 26,  /* after the segment count at 25 */
     MOST_PATCHES = 8,
     MOST_SEGMENTS = 6,
-    MOST_SUBAREAS = 16,
-    MOST_ROWS = 2000,
     MOST_WEIGHTS = 512,
     MOST_RAIN = 30000,
     MOST_AREA = 200000,
@@ -22,14 +18,7 @@ enum {
 static const u64 LAST_ROW_NUMBER = 9007199254740991u;
 static const u64 MOST_STAGE = 1000000u, MOST_STORAGE = 1000000000000u, MOST_DISCHARGE = 10000000u;
 
-/* Everything that is lent to a study and only read, with the lengths of the row lists. */
-struct lent {
-    u64 step, first;
-    const u64 *rain, *subareas, *pond;
-    size_t rain_len, subareas_len, pond_len, inflow_len, outflow_len, storage_len;
-};
-
-static bool within(u64 x, u64 least, u64 most)
+bool within(u64 x, u64 least, u64 most)
 {
     return least <= x && x <= most;
 }
@@ -222,23 +211,25 @@ static void add_parts(const struct subarea *s, u64 *rows, u64 m)
     }
 }
 
-static void work_inflow(const struct lent *lent, u64 *rows)
+void add_record(const struct lent *lent, const u64 *record, u64 *rows)
 {
     static struct subarea s;
-    u64 m = lent->inflow_len;
-    memset(rows, 0, m * sizeof *rows);
-    for (size_t at = 0; at < lent->subareas_len; at += WIDTH) {
-        const u64 *record = lent->subareas + at;
-        s.area = area_of(record);
-        work_weights(&s, reference_peak(reference_concentration(record)), lent->step);
-        work_runoffs(&s, reference_curve(record), lent);
-        add_parts(&s, rows, m);
-    }
+    s.area = area_of(record);
+    work_weights(&s, reference_peak(reference_concentration(record)), lent->step);
+    work_runoffs(&s, reference_curve(record), lent);
+    add_parts(&s, rows, lent->inflow_len);
+}
+
+static void work_inflow(const struct lent *lent, u64 *rows)
+{
+    memset(rows, 0, lent->inflow_len * sizeof *rows);
+    for (size_t at = 0; at < lent->subareas_len; at += WIDTH)
+        add_record(lent, lent->subareas + at, rows);
 }
 
 /* ---- Pond rows. Row i of the table (from 0) has stage, storage, discharge. */
 
-static wide sum_of(const u64 *row, u64 half)
+wide sum_of(const u64 *row, u64 half)
 {
     return (wide)row[1] + (wide)half * row[2];
 }
@@ -249,38 +240,48 @@ static u64 line(wide xa, wide ya, wide xb, wide yb, wide x)
     return (u64)(ya + (yb - ya) * (x - xa) / (xb - xa));
 }
 
+/* A column of the table at x, which is not above the last X_i. */
+static u64 column_at(const u64 *pond, u64 half, int column, wide x)
+{
+    const u64 *b = pond + 3;
+    while (sum_of(b, half) < x)
+        b += 3;
+    const u64 *a = b - 3;
+    return line(sum_of(a, half), a[column], sum_of(b, half), b[column], x);
+}
+
+u64 stage_at(const u64 *pond, u64 half, wide x)
+{
+    return column_at(pond, half, 0, x);
+}
+
 int reference_step(const u64 *pond, size_t rows, u64 half, u64 inflow, struct state *state)
 {
     wide x = (wide)state->storage - (wide)half * state->outflow + inflow;
     if (x > sum_of(pond + 3 * (rows - 1), half))
         return 0;
-    const u64 *b = pond + 3;
-    while (sum_of(b, half) < x)
-        b += 3;
-    const u64 *a = b - 3;
-    wide xa = sum_of(a, half), xb = sum_of(b, half);
-    state->outflow = line(xa, a[2], xb, b[2], x);
+    state->outflow = column_at(pond, half, 2, x);
     state->storage = (u64)(x - (wide)half * state->outflow);
-    state->stage = line(xa, a[0], xb, b[0], x);
+    state->stage = stage_at(pond, half, x);
     return 1;
 }
 
 /* ---- Refusals. Each check gives its number and the first place, or PASSED. */
 
-static const struct refusal PASSED = { 0, 0 };
+const struct refusal PASSED = { 0, 0 };
 
-static struct refusal refuse(bool when, u64 number, u64 place)
+struct refusal refuse(bool when, u64 number, u64 place)
 {
     return when ? (struct refusal){ number, place } : PASSED;
 }
 
-static struct refusal check_rows(const struct lent *s)
+struct refusal check_rows(const struct lent *s)
 {
     u64 m = s->inflow_len;
     return refuse(s->outflow_len != m || s->storage_len != m || !within(m, 1, MOST_ROWS), 1, 0);
 }
 
-static struct refusal check_step(const struct lent *s)
+struct refusal check_step(const struct lent *s)
 {
     return refuse(s->step % 2 != 0 || !within(s->step, 60, 3600), 2, 0);
 }
@@ -295,7 +296,7 @@ static struct refusal check_rain(const struct lent *s)
     return PASSED;
 }
 
-static struct refusal check_last_number(const struct lent *s)
+struct refusal check_last_number(const struct lent *s)
 {
     return refuse((wide)s->first + s->inflow_len - 1 > LAST_ROW_NUMBER, 4, 0);
 }
@@ -420,13 +421,9 @@ static struct refusal check_pond_storage(const struct lent *s)
     return PASSED;
 }
 
-static struct refusal first_refusal(const struct lent *s)
+struct refusal first_of(check *const *checks, size_t count, const struct lent *s)
 {
-    static struct refusal (*const checks[])(const struct lent *) = {
-        check_rows, check_step, check_rain, check_last_number, check_count, check_patches, check_segments,
-        check_total_area, check_concentration, check_step_above_peak, check_weights, check_pond, check_pond_storage,
-    };
-    for (size_t i = 0; i < sizeof checks / sizeof *checks; i++) {
+    for (size_t i = 0; i < count; i++) {
         struct refusal r = checks[i](s);
         if (r.number != 0)
             return r;
@@ -434,19 +431,33 @@ static struct refusal first_refusal(const struct lent *s)
     return PASSED;
 }
 
+struct refusal run_checks(const struct lent *s)
+{
+    static check *const checks[] = { check_rows, check_step, check_rain, check_last_number, check_count };
+    return first_of(checks, 5, s);
+}
+
+struct refusal list_checks(const struct lent *s)
+{
+    static check *const checks[] = { check_patches,       check_segments,        check_total_area,
+                                     check_concentration, check_step_above_peak, check_weights };
+    return first_of(checks, 6, s);
+}
+
+struct refusal pond_checks(const struct lent *s)
+{
+    static check *const checks[] = { check_pond, check_pond_storage };
+    return first_of(checks, 2, s);
+}
+
 /* ---- The study */
 
-/* The rows as worked, before anything is written. */
-struct rows {
-    u64 inflow[MOST_ROWS];
-    struct state after[MOST_ROWS];
-};
-
-static struct refusal work_rows(const struct lent *s, struct rows *rows)
+struct refusal route_from(const struct lent *s, u64 first, struct rows *rows)
 {
     struct state state = { 0, 0, 0 };
-    work_inflow(s, rows->inflow);
-    for (u64 k = 1; k <= s->inflow_len; k++) {
+    if (first > 1)
+        state = rows->after[first - 2];
+    for (u64 k = first; k <= s->inflow_len; k++) {
         if (!reference_step(s->pond, s->pond_len / 3, s->step / 2, rows->inflow[k - 1], &state))
             return refuse(true, 14, k);
         rows->after[k - 1] = state;
@@ -454,8 +465,7 @@ static struct refusal work_rows(const struct lent *s, struct rows *rows)
     return PASSED;
 }
 
-/* Places 2 to 7 of the answer: inflow, released, storage, peak, row, stage. */
-static void row_figures(const struct rows *rows, u64 m, u64 half, u64 *answer)
+void row_figures(const struct rows *rows, u64 m, u64 half, u64 *answer)
 {
     u64 old = 0;
     answer[6] = 1;
@@ -474,8 +484,7 @@ static void row_figures(const struct rows *rows, u64 m, u64 half, u64 *answer)
     }
 }
 
-/* Places 8 to 11: the area in each class. */
-static void class_areas(const struct lent *s, u64 *answer)
+void class_areas(const struct lent *s, u64 *answer)
 {
     for (size_t at = 0; at < s->subareas_len; at += WIDTH) {
         const u64 *record = s->subareas + at;
@@ -484,7 +493,7 @@ static void class_areas(const struct lent *s, u64 *answer)
     }
 }
 
-static void write_rows(const struct rows *rows, u64 m, u64 *inflow, u64 *outflow, u64 *storage)
+void write_rows(const struct rows *rows, u64 m, u64 *inflow, u64 *outflow, u64 *storage)
 {
     for (u64 k = 0; k < m; k++) {
         inflow[k] = rows->inflow[k];
@@ -498,12 +507,15 @@ u64 reference_study(u64 step, u64 first, const u64 *rain, size_t rain_len, const
                     u64 *storage, size_t storage_len, u64 *answer)
 {
     static struct rows rows;
+    static check *const checks[] = { run_checks, list_checks, pond_checks };
     struct lent s = { step,         first,    rain,       subareas,    pond,       rain_len,
                       subareas_len, pond_len, inflow_len, outflow_len, storage_len };
     memset(answer, 0, 12 * sizeof *answer);
-    struct refusal r = first_refusal(&s);
-    if (r.number == 0)
-        r = work_rows(&s, &rows);
+    struct refusal r = first_of(checks, 3, &s);
+    if (r.number == 0) {
+        work_inflow(&s, rows.inflow);
+        r = route_from(&s, 1, &rows);
+    }
     if (r.number == 0) {
         row_figures(&rows, inflow_len, step / 2, answer);
         class_areas(&s, answer);

@@ -1,6 +1,6 @@
 /*
- * Document 01 (docs/SCOPE.md) once more, in plain C: a study worked from the text of the rules and from nothing of the
- * engine. Slow and plain on purpose. Whole numbers only; sums and products are 128 bits wide.
+ * Document 01 (docs/SCOPE.md) once more, in plain C: studies and edits worked from the text of the rules and from
+ * nothing of the engine. Slow and plain on purpose. Whole numbers only; sums and products are 128 bits wide.
  */
 #ifndef REFERENCE_H
 #define REFERENCE_H
@@ -36,5 +36,16 @@ int reference_step(const u64 *pond, size_t rows, u64 half, u64 inflow, struct st
 u64 reference_study(u64 step, u64 first, const u64 *rain, size_t rain_len, const u64 *subareas, size_t subareas_len,
                     const u64 *pond, size_t pond_len, u64 *inflow, size_t inflow_len, u64 *outflow, size_t outflow_len,
                     u64 *storage, size_t storage_len, u64 *answer);
+
+/* A whole edit, with the parameters and the answers of bt_edit. */
+u64 reference_edit(u64 step, u64 first, const u64 *rain, size_t rain_len, const u64 *subareas, size_t subareas_len,
+                   const u64 *pond, size_t pond_len, u64 *inflow, size_t inflow_len, u64 *outflow, size_t outflow_len,
+                   u64 *storage, size_t storage_len, u64 place, const u64 *fresh, u64 *answer, int64_t *changes);
+
+/* A record's part of each of m rows' inflow volume. It and the rain are within document 01's limits. */
+void reference_parts(u64 step, const u64 *rain, size_t rain_len, const u64 *record, u64 *parts, size_t m);
+
+/* The first of 6 to 11, if any, that refuses a list of 1 to 16 records. */
+struct refusal reference_list_refusal(u64 step, const u64 *subareas, size_t subareas_len);
 
 #endif

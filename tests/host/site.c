@@ -36,6 +36,11 @@ bool chance(struct prng *r, u64 percent)
 
 /* ---- Parts */
 
+size_t place(int where, size_t count)
+{
+    return where == 0 ? 0 : where == 1 ? count / 2 : count - 1;
+}
+
 size_t subarea_count(const struct site *s)
 {
     return s->subareas.len / BT_WIDTH;
@@ -89,6 +94,11 @@ void set_concentration(u64 *record, u64 seconds)
     record[BT_SEGMENT_COUNT] = count;
 }
 
+u64 concentration_of(u64 peak)
+{
+    return (5 * peak + 2) / 3;
+}
+
 /* Storage grows faster than stage; discharge is 'percent' of the most that refusal 13 allows. */
 void set_pond(struct site *s, size_t rows, u64 capacity, u64 half, u64 percent)
 {
@@ -102,16 +112,15 @@ void set_pond(struct site *s, size_t rows, u64 capacity, u64 half, u64 percent)
 
 /* ---- Subareas */
 
-/* Numbers past the counts hold anything. */
-static void litter(u64 *record, struct prng *r)
+void litter(u64 *record, struct prng *r)
 {
     bool clean = chance(r, 30);
     for (size_t i = 0; i < BT_WIDTH; i++)
         record[i] = clean ? 0 : chance(r, 30) ? UINT64_MAX : any(r) >> below(r, 64);
 }
 
-/* Patches of an area together at most 'most'; often some of one size, so that means fall on halves. */
-static void random_patches(u64 *record, struct prng *r, size_t count, u64 most)
+/* Often of one size, so that means fall on halves. */
+void random_patches(u64 *record, struct prng *r, size_t count, u64 most)
 {
     u64 each = most / count, same = between(r, 1, each);
     bool alike = chance(r, 40);
@@ -163,15 +172,23 @@ static u64 most_concentration(u64 step)
     return most < 36000 ? most : 36000;
 }
 
+void fitting_path(const struct site *s, u64 *record, struct prng *r)
+{
+    random_path(record, r, least_concentration(s->step), most_concentration(s->step));
+}
+
+void fitting_record(const struct site *s, u64 *record, struct prng *r, u64 most)
+{
+    litter(record, r);
+    random_patches(record, r, chance(r, 50) ? between(r, 1, 3) : between(r, 1, BT_MOST_PATCHES), most);
+    fitting_path(s, record, r);
+}
+
 static void random_subareas(struct site *s, struct prng *r, size_t count, u64 most)
 {
     s->subareas.len = BT_WIDTH * count;
-    for (size_t i = 0; i < count; i++) {
-        u64 *record = record_at(s, i);
-        litter(record, r);
-        random_patches(record, r, chance(r, 50) ? between(r, 1, 3) : between(r, 1, BT_MOST_PATCHES), most / count);
-        random_path(record, r, least_concentration(s->step), most_concentration(s->step));
-    }
+    for (size_t i = 0; i < count; i++)
+        fitting_record(s, record_at(s, i), r, most / count);
 }
 
 /* ---- Rain and pond */
@@ -188,17 +205,24 @@ static void random_rain(struct site *s, struct prng *r, size_t n, u64 total)
         s->rain.at[t] = sum == 0 ? total : s->rain.at[t] * total / sum;
 }
 
-static u64 total_area(struct site *s)
+static u64 area_of(const u64 *record)
+{
+    u64 area = 0;
+    for (u64 j = 0; j < record[BT_PATCH_COUNT] && j < BT_MOST_PATCHES; j++)
+        area += record[BT_PATCHES + BT_PATCH_WIDTH * j + 2];
+    return area;
+}
+
+u64 total_area(const struct site *s)
 {
     u64 total = 0;
     for (size_t i = 0; i < subarea_count(s); i++)
-        for (u64 j = 0; j < record_at(s, i)[BT_PATCH_COUNT] && j < BT_MOST_PATCHES; j++)
-            total += patch_at(record_at(s, i), j)[2];
+        total += area_of(s->subareas.at + BT_WIDTH * i);
     return total;
 }
 
 /* The volume of all the rain on all the area: more than can ever run in. */
-static u64 all_water(struct site *s)
+static u64 all_water(const struct site *s)
 {
     return reference_volume(total_area(s), 1000 * s->rain.at[s->rain.len - 1]);
 }
@@ -276,7 +300,7 @@ void large_site(struct site *s, struct prng *r)
 
 /* ---- Hostile sites */
 
-static u64 nasty(struct prng *r, u64 was)
+u64 nasty(struct prng *r, u64 was)
 {
     static const u64 edges[] = {
         0, 1, 2, 3, 4, 6, 7, 8, 9, 16, 22, 60, 360, 512, 2000, 3600, 4000, 10000, 30000, 36000, 200000, 1000000,
@@ -358,8 +382,7 @@ static void spoil_discharge(struct site *s, struct prng *r)
             pond_row_at(s, i)[2] = least;
 }
 
-/* A Tc near one that the study's step, or 36,000, forbids. */
-static void spoil_time(struct site *s, u64 *record, struct prng *r)
+void spoil_time(const struct site *s, u64 *record, struct prng *r)
 {
     const u64 near[] = { 36000, (5 * s->step + 2) / 3 % 36000, 512 * s->step / 3 % 36000, below(r, 36000) };
     set_concentration(record, near[below(r, 4)] + below(r, 4));

@@ -22,6 +22,11 @@ struct site {
     size_t inflow, outflow, storage; /* lengths of the row lists */
 };
 
+/* What stands in the row lists. Row k stands at k - 1. */
+struct columns {
+    u64 inflow[ROOM], outflow[ROOM], storage[ROOM];
+};
+
 /* ---- Random numbers (splitmix64) */
 
 struct prng {
@@ -33,9 +38,11 @@ u64 any(struct prng *r);
 u64 below(struct prng *r, u64 n);                /* 0 to n - 1 */
 u64 between(struct prng *r, u64 least, u64 most);
 bool chance(struct prng *r, u64 percent);
+u64 nasty(struct prng *r, u64 was);              /* a number beside 'was', or beside some limit */
 
 /* ---- Parts of a site. Places count from 0. */
 
+size_t place(int where, size_t count);               /* the first, a middle, the last of them: 0, 1, 2 */
 size_t subarea_count(const struct site *s);
 size_t pond_rows(const struct site *s);
 u64 *record_at(struct site *s, size_t i);
@@ -44,7 +51,19 @@ u64 *segment_at(u64 *record, size_t i);
 u64 *pond_row_at(struct site *s, size_t i);
 void set_rows(struct site *s, size_t m);             /* the length of all three row lists */
 void set_concentration(u64 *record, u64 seconds);    /* one or two segments of kind 3 */
+u64 concentration_of(u64 peak);                      /* the least Tc whose Tp is at least this */
 void set_pond(struct site *s, size_t rows, u64 capacity, u64 half, u64 percent);
+u64 total_area(const struct site *s);
+
+/* Parts of a good record: litter past the counts, patches of an area together at most 'most', a path that 9 to 11 allow
+   with the site's step. */
+void litter(u64 *record, struct prng *r);
+void random_patches(u64 *record, struct prng *r, size_t count, u64 most);
+void fitting_path(const struct site *s, u64 *record, struct prng *r);
+void fitting_record(const struct site *s, u64 *record, struct prng *r, u64 most); /* all three */
+
+/* A Tc near one that the site's step, or 36,000, forbids. */
+void spoil_time(const struct site *s, u64 *record, struct prng *r);
 
 /* ---- Whole sites */
 

@@ -1,0 +1,219 @@
+#include "edit.h"
+
+#include <string.h>
+
+static const u64 MOST_INFLOW = 217800000000u;
+
+/* ---- Parts */
+
+u64 half_step(const struct edit *e)
+{
+    return e->site.step / 2;
+}
+
+const u64 *last_pond_row(const struct edit *e)
+{
+    return e->site.pond.at + e->site.pond.len - BT_POND_WIDTH;
+}
+
+u64 pond_top(const struct edit *e)
+{
+    return last_pond_row(e)[1] + half_step(e) * last_pond_row(e)[2];
+}
+
+static bool place_listed(const struct edit *e)
+{
+    return 1 <= e->place && e->place <= subarea_count(&e->site);
+}
+
+u64 *old_record(struct edit *e)
+{
+    return record_at(&e->site, place_listed(e) ? e->place - 1 : 0);
+}
+
+/* ---- Rows as found */
+
+u64 stand(struct edit *e)
+{
+    const struct site *s = &e->site;
+    u64 answer[BT_ANSWER_LENGTH];
+    return reference_study(s->step, s->first, s->rain.at, s->rain.len, s->subareas.at, s->subareas.len, s->pond.at,
+                           s->pond.len, e->found.inflow, s->inflow, e->found.outflow, s->outflow, e->found.storage,
+                           s->storage, answer);
+}
+
+/* The old record's parts; none where the place is not in the list. */
+static void old_parts(const struct edit *e, u64 *parts)
+{
+    const struct site *s = &e->site;
+    memset(parts, 0, s->inflow * sizeof *parts);
+    if (place_listed(e))
+        reference_parts(s->step, s->rain.at, s->rain.len, s->subareas.at + BT_WIDTH * (e->place - 1), parts, s->inflow);
+}
+
+/* From 0 to 'most', often at an end. */
+static u64 up_to(struct prng *r, u64 most)
+{
+    return chance(r, 15) ? 0 : chance(r, 15) ? most : between(r, 0, most);
+}
+
+void forge(struct edit *e, struct prng *r)
+{
+    u64 parts[ROOM], top = pond_top(e), half = half_step(e), discharge = last_pond_row(e)[2];
+    u64 most = chance(r, 30) ? MOST_INFLOW / 2 : top / (2 * e->site.inflow) + 1;
+    old_parts(e, parts);
+    for (size_t k = 0; k < e->site.inflow; k++) {
+        u64 outflow = up_to(r, discharge / (chance(r, 50) ? 1 : 4));
+        e->found.inflow[k] = parts[k] + up_to(r, most);
+        e->found.outflow[k] = outflow;
+        e->found.storage[k] = half * outflow + up_to(r, (top - 2 * half * outflow) / (chance(r, 50) ? 1 : 4));
+    }
+}
+
+void scrawl(struct edit *e, struct prng *r)
+{
+    for (size_t k = 0; k < ROOM; k++) {
+        e->found.inflow[k] = nasty(r, k);
+        e->found.outflow[k] = nasty(r, k);
+        e->found.storage[k] = nasty(r, k);
+    }
+}
+
+static void spoil_inflow(struct edit *e, size_t k, struct prng *r)
+{
+    u64 parts[ROOM];
+    old_parts(e, parts);
+    const u64 values[] = { parts[k], parts[k] - 1, 0, MOST_INFLOW, MOST_INFLOW + 1, UINT64_MAX, nasty(r, parts[k]) };
+    e->found.inflow[k] = values[below(r, 7)];
+}
+
+static void spoil_outflow(struct edit *e, size_t k, struct prng *r)
+{
+    u64 most = last_pond_row(e)[2], wraps = UINT64_MAX / half_step(e) + 1;
+    const u64 values[] = { most, most + 1, wraps, UINT64_MAX, (u64)1 << 63, nasty(r, most) };
+    e->found.outflow[k] = values[below(r, 6)];
+}
+
+/* At and beside h times outflow, what is left of the last X_i, and what makes a sum of 64 bits wrap. */
+static void spoil_storage(struct edit *e, size_t k, struct prng *r)
+{
+    u64 least = half_step(e) * e->found.outflow[k], most = pond_top(e) - least;
+    const u64 values[] = { least, least - 1, most, most + 1, 0 - least, UINT64_MAX, nasty(r, most) };
+    e->found.storage[k] = values[below(r, 7)];
+}
+
+void spoil_row(struct edit *e, struct prng *r)
+{
+    size_t k = below(r, e->site.inflow);
+    switch (below(r, 3)) {
+    case 0: spoil_inflow(e, k, r); break;
+    case 1: spoil_outflow(e, k, r); break;
+    default: spoil_storage(e, k, r); break;
+    }
+}
+
+/* ---- The new record */
+
+void keep_record(struct edit *e)
+{
+    memcpy(e->fresh, old_record(e), sizeof e->fresh);
+}
+
+/* What the altered list may take up in this place. */
+static u64 free_area(struct edit *e)
+{
+    struct site one = { .subareas.len = BT_WIDTH };
+    memcpy(one.subareas.at, old_record(e), BT_WIDTH * sizeof(u64));
+    u64 others = total_area(&e->site) - total_area(&one);
+    return others >= 200000 - BT_MOST_PATCHES ? BT_MOST_PATCHES : 200000 - others;
+}
+
+static u64 *some_patch(struct edit *e, struct prng *r)
+{
+    return patch_at(e->fresh, below(r, e->fresh[BT_PATCH_COUNT] % 8 + 1) % 8);
+}
+
+void random_fresh(struct edit *e, struct prng *r)
+{
+    u64 room = free_area(e), most = chance(r, 80) ? room / 16 + BT_MOST_PATCHES : room;
+    bool steady = 60 <= e->site.step && e->site.step <= 3600; /* else no path fits it */
+    keep_record(e);
+    switch (below(r, steady ? 8 : 4)) {
+    case 0: break;
+    case 1: some_patch(e, r)[0] = between(r, 1, 22); break;
+    case 2: some_patch(e, r)[2] += chance(r, 50) ? 1 : 2; break;
+    case 3: random_patches(e->fresh, r, between(r, 1, BT_MOST_PATCHES), most); break;
+    case 4: fitting_path(&e->site, e->fresh, r); break;
+    default: fitting_record(&e->site, e->fresh, r, most); break;
+    }
+}
+
+static void hostile_number(struct edit *e, struct prng *r)
+{
+    u64 *at;
+    switch (below(r, 4)) {
+    case 0: at = e->fresh + BT_PATCH_COUNT; break;
+    case 1: at = e->fresh + BT_SEGMENT_COUNT; break;
+    case 2: at = some_patch(e, r) + below(r, 3); break;
+    default: at = segment_at(e->fresh, below(r, e->fresh[BT_SEGMENT_COUNT] % 6 + 1) % 6) + below(r, 3); break;
+    }
+    *at = nasty(r, *at);
+}
+
+/* One patch that takes up all that is left, or one more, or one less. */
+static void fill_area(struct edit *e, struct prng *r)
+{
+    random_patches(e->fresh, r, 1, 1);
+    patch_at(e->fresh, 0)[2] = free_area(e) + below(r, 3) - 1;
+}
+
+void hostile_fresh(struct edit *e, struct prng *r)
+{
+    random_fresh(e, r);
+    switch (below(r, 4)) {
+    case 0: spoil_time(&e->site, e->fresh, r); break;
+    case 1: fill_area(e, r); break;
+    default: hostile_number(e, r); break;
+    }
+}
+
+/* ---- Whole edits */
+
+static u64 random_place(const struct site *s, struct prng *r)
+{
+    u64 count = subarea_count(s);
+    const u64 others[] = { 0,          count + 1, count + 2, ((u64)1 << 32) + 1, UINT64_MAX / BT_WIDTH + 2,
+                           UINT64_MAX, nasty(r, 1) };
+    return count == 0 || chance(r, 4) ? others[below(r, 7)] : between(r, 1, count);
+}
+
+static void find_rows(struct edit *e, struct prng *r)
+{
+    u64 refusal = stand(e);
+    if (refusal != 0 && refusal != BT_REFUSED_FULL) {
+        scrawl(e, r);
+        return;
+    }
+    if (refusal != 0 || chance(r, 40))
+        forge(e, r);
+    for (u64 n = chance(r, 70) ? 0 : between(r, 1, 3); n > 0; n--)
+        spoil_row(e, r);
+}
+
+void edit_of(struct edit *e, const struct site *s, struct prng *r)
+{
+    e->site = *s;
+    e->place = random_place(s, r);
+    find_rows(e, r);
+    if (chance(r, 90))
+        random_fresh(e, r);
+    else
+        hostile_fresh(e, r);
+}
+
+void altered_site(struct site *to, const struct edit *e)
+{
+    *to = e->site;
+    if (place_listed(e))
+        memcpy(record_at(to, e->place - 1), e->fresh, sizeof e->fresh);
+}

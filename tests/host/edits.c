@@ -1,0 +1,523 @@
+#include "edits.h"
+
+#include <string.h>
+
+#include "faults.h"
+#include "take.h"
+
+#define COUNT(a) (sizeof(a) / sizeof *(a))
+
+static const u64 MOST = UINT64_MAX, MOST_INFLOW = 217800000000u;
+
+static void take_with(const char *kind, struct edit *e, u64 *at, u64 value)
+{
+    u64 was = *at;
+    *at = value;
+    take_edit(kind, e);
+    *at = was;
+}
+
+/* ---- Edits to start from */
+
+/* A plain site of 12 rows and 7 pond rows that stands; the new record is another plain site's. */
+static void start_edit(struct edit *e, struct prng *r, size_t count, int where)
+{
+    static struct site other;
+    *e = (struct edit){ 0 };
+    other = (struct site){ 0 };
+    plain_site(&e->site, r, count, 7);
+    plain_site(&other, r, count, 7);
+    e->place = place(where, count) + 1;
+    memcpy(e->fresh, record_at(&other, 0), sizeof e->fresh);
+    stand(e);
+}
+
+/* No rain before entry 'row', much from it on: it is the first row with any parts. */
+static void dry_until(struct edit *e, size_t row)
+{
+    e->site.rain.len = e->site.inflow + 1;
+    for (size_t t = 0; t < e->site.rain.len; t++)
+        e->site.rain.at[t] = t < row ? 0 : 3000 + 100 * t;
+    stand(e);
+}
+
+/* ---- Nothing changed */
+
+static void same_records(struct edit *e, struct prng *r)
+{
+    static const size_t counts[] = { 1, 5, 16 };
+    for (size_t i = 0; i < COUNT(counts); i++)
+        for (int where = 0; where < 3; where++) {
+            start_edit(e, r, counts[i], where);
+            old_record(e)[BT_PATCH_COUNT] = 3;
+            old_record(e)[BT_SEGMENT_COUNT] = 4;
+            stand(e);
+            keep_record(e);
+            take_edit("the same record", e);
+            e->fresh[BT_PATCHES + 3 * BT_PATCH_WIDTH] = MOST;
+            e->fresh[BT_WIDTH - 1] = 0;
+            take_edit("the same record but for what is not read", e);
+            forge(e, r);
+            take_edit("the same record, forged rows", e);
+        }
+}
+
+static void set_patch(u64 *record, u64 cover, u64 area)
+{
+    record[BT_PATCH_COUNT] = 1;
+    patch_at(record, 0)[0] = cover;
+    patch_at(record, 0)[1] = 1;
+    patch_at(record, 0)[2] = area;
+}
+
+/* Covers of low number on soil A, one of each class that has some, and too little rain for any: no row is changed, the
+   class areas are. */
+static void dry_records(struct edit *e, struct prng *r)
+{
+    static const u64 covers[] = { 3, 16, 19, 22 };
+    for (size_t i = 0; i < COUNT(covers); i++)
+        for (size_t j = 0; j < COUNT(covers); j++) {
+            start_edit(e, r, 3, (int)j % 3);
+            for (size_t t = 0; t < e->site.rain.len; t++)
+                e->site.rain.at[t] = 200 * t;
+            set_patch(old_record(e), covers[i], 500);
+            set_patch(e->fresh, covers[j], 700);
+            stand(e);
+            take_edit("parts of 0 for parts of 0", e);
+            forge(e, r);
+            take_edit("parts of 0 for parts of 0, forged rows", e);
+        }
+}
+
+/* ---- Places */
+
+static void places(struct edit *e, struct prng *r)
+{
+    static const size_t counts[] = { 1, 2, 5, 16 };
+    for (size_t i = 0; i < COUNT(counts); i++) {
+        u64 count = counts[i];
+        const u64 values[] = { 0,        1,         count,          count + 1, count + 2,
+                               16,       17,        44,             MOST,      MOST - 1,
+                               MOST / 2, 1u << 31,  4294967296,     4294967297, 4294967296 + count,
+                               MOST / 8 + 2, MOST / BT_WIDTH + 2, MOST / (8 * BT_WIDTH) + 2 };
+        start_edit(e, r, count, 0);
+        for (size_t j = 0; j < COUNT(values); j++)
+            take_with("a place", e, &e->place, values[j]);
+    }
+}
+
+/* ---- The new record, its own limits */
+
+static void fresh_numbers(struct edit *e)
+{
+    for (size_t i = 0; i < BT_WIDTH; i++) {
+        u64 was = e->fresh[i];
+        const u64 values[] = { MOST, was + 4294967296u, 0, was + 1, was - 1, (u64)1 << 63 };
+        for (size_t j = 0; j < COUNT(values); j++)
+            take_with("a number of the new record spoilt", e, &e->fresh[i], values[j]);
+    }
+}
+
+struct limits {
+    u64 least, most;
+};
+
+static void at_limits(const char *kind, struct edit *e, u64 *at, struct limits l)
+{
+    const u64 values[] = { l.least - 1, l.least, l.most, l.most + 1 };
+    for (size_t i = 0; i < COUNT(values); i++)
+        take_with(kind, e, at, values[i]);
+}
+
+static void fresh_limits(struct edit *e)
+{
+    static const struct limits patch[] = { { 1, 22 }, { 1, 4 }, { 1, 200000 } };
+    static const struct limits segment[] = { { 1, 3 }, { 1, 4000 }, { 1, 10000 } };
+    at_limits("patch count of the new record", e, &e->fresh[BT_PATCH_COUNT], (struct limits){ 1, 8 });
+    at_limits("segment count of the new record", e, &e->fresh[BT_SEGMENT_COUNT], (struct limits){ 1, 6 });
+    for (int where = 0; where < 3; where++)
+        for (size_t f = 0; f < 3; f++) {
+            at_limits("a patch of the new record", e, patch_at(e->fresh, place(where, 8)) + f, patch[f]);
+            at_limits("a segment of the new record", e, segment_at(e->fresh, place(where, 6)) + f, segment[f]);
+        }
+}
+
+static void fresh_records(struct edit *e, struct prng *r)
+{
+    for (int where = 0; where < 3; where++) {
+        start_edit(e, r, 5, where);
+        fresh_numbers(e);
+        fresh_limits(e);
+    }
+    start_edit(e, r, 1, 0);
+    fresh_numbers(e);
+    fresh_limits(e);
+}
+
+/* ---- The new record, the study's limits */
+
+/* The altered list's area beside 200,000, with the old record counted or not. */
+static void fresh_areas(struct edit *e, struct prng *r)
+{
+    static const size_t counts[] = { 1, 2, 5, 16 };
+    for (size_t i = 0; i < COUNT(counts); i++)
+        for (int where = 0; where < 3; where++) {
+            start_edit(e, r, counts[i], where);
+            u64 all = total_area(&e->site), own = 0;
+            for (size_t j = 0; j < BT_MOST_PATCHES; j++)
+                own += patch_at(old_record(e), j)[2];
+            set_patch(e->fresh, 3, 1);
+            for (u64 more = 0; more < 5; more++) {
+                take_with("area of the altered list", e, &patch_at(e->fresh, 0)[2], 200000 - (all - own) + more - 2);
+                take_with("area with the old record", e, &patch_at(e->fresh, 0)[2], 200000 - all + more - 2);
+            }
+        }
+}
+
+static void try_time(const char *kind, struct edit *e, u64 seconds)
+{
+    set_concentration(e->fresh, seconds);
+    take_edit(kind, e);
+}
+
+static void fresh_times_at(struct edit *e, u64 step)
+{
+    static const u64 seconds[] = { 1, 359, 360, 361, 35999, 36000, 36001, 36002, 37000 };
+    u64 most = 512 * step / 5;
+    e->site.step = step;
+    for (size_t i = 0; i < subarea_count(&e->site); i++)
+        set_concentration(record_at(&e->site, i), concentration_of(3 * step < 220 ? 220 : 3 * step));
+    stand(e);
+    for (size_t i = 0; i < COUNT(seconds); i++)
+        try_time("Tc of the new record at its limits", e, seconds[i]);
+    for (u64 peak = step - 2; peak <= step + 2; peak++)
+        try_time("D beside the new record's Tp", e, concentration_of(peak));
+    for (u64 peak = most - 1; peak <= most + 2 && peak <= 21600; peak++)
+        try_time("the new record's 5 Tp beside 512 D", e, concentration_of(peak));
+}
+
+static void fresh_times(struct edit *e, struct prng *r)
+{
+    static const u64 steps[] = { 60, 62, 120, 210, 212, 216, 218, 300, 1800, 3598, 3600 };
+    for (size_t i = 0; i < COUNT(steps); i++) {
+        start_edit(e, r, 5, (int)i % 3);
+        fresh_times_at(e, steps[i]);
+    }
+}
+
+/* ---- Rows as found, at the limits of 16 and 17 */
+
+static void inflow_at_limits(struct edit *e, size_t k)
+{
+    u64 parts[ROOM];
+    const struct site *s = &e->site;
+    reference_parts(s->step, s->rain.at, s->rain.len, old_record(e), parts, s->inflow);
+    const u64 values[] = { parts[k],        parts[k] - 1, parts[k] + 1,    0,    MOST_INFLOW - 1, MOST_INFLOW,
+                           MOST_INFLOW + 1, MOST,         (u64)1 << 63,    4294967296 };
+    for (size_t i = 0; i < COUNT(values); i++)
+        take_with("an inflow row at its limits", e, &e->found.inflow[k], values[i]);
+}
+
+static void outflow_at_limits(struct edit *e, size_t k)
+{
+    u64 discharge = last_pond_row(e)[2], half = half_step(e), was = e->found.storage[k];
+    const u64 values[] = { 0, discharge, discharge + 1, MOST, MOST / half + 1, MOST / half, (u64)1 << 63 };
+    for (int stored = 0; stored < 2; stored++) {
+        for (size_t i = 0; i < COUNT(values); i++)
+            take_with("an outflow row at its limits", e, &e->found.outflow[k], values[i]);
+        e->found.storage[k] = half * discharge;
+    }
+    e->found.storage[k] = was;
+}
+
+/* With no outflow and with the greatest. The last values make storage and h times outflow wrap to 0 and 1. */
+static void storage_at_limits(struct edit *e, size_t k)
+{
+    u64 discharge = last_pond_row(e)[2], top = pond_top(e), was = e->found.outflow[k];
+    for (int open = 0; open < 2; open++) {
+        u64 least = open ? half_step(e) * discharge : 0;
+        const u64 values[] = { least - 1, least,   least + 1,    top - least - 1, top - least, top - least + 1,
+                               top,       top + 1, (u64)1 << 63, MOST,            0 - least,   1 - least };
+        e->found.outflow[k] = open ? discharge : 0;
+        for (size_t i = 0; i < COUNT(values); i++)
+            take_with("a storage row at its limits", e, &e->found.storage[k], values[i]);
+    }
+    e->found.outflow[k] = was;
+}
+
+static void rows_at_limits(struct edit *e)
+{
+    for (int where = 0; where < 3; where++) {
+        size_t k = place(where, e->site.inflow);
+        inflow_at_limits(e, k);
+        outflow_at_limits(e, k);
+        storage_at_limits(e, k);
+    }
+}
+
+/* Rows that stand, then forged ones; the first changed row is the first, one between, the last, or there is none. */
+static void found_rows(struct edit *e, struct prng *r)
+{
+    static const size_t changed[] = { 1, 6, 12 };
+    for (size_t i = 0; i <= COUNT(changed); i++)
+        for (int forged = 0; forged < 2; forged++) {
+            start_edit(e, r, 3, (int)i % 3);
+            if (i < COUNT(changed))
+                dry_until(e, changed[i]);
+            else
+                keep_record(e);
+            if (forged)
+                forge(e, r);
+            rows_at_limits(e);
+        }
+}
+
+/* A bad outflow before a bad inflow, row by row: 16 is looked for in every row before 17 in any. */
+static void order_of_rows(struct edit *e, struct prng *r)
+{
+    start_edit(e, r, 3, 1);
+    for (size_t one = 0; one < 12; one++)
+        for (size_t two = 0; two < 12; two++) {
+            u64 outflow = e->found.outflow[one];
+            e->found.outflow[one] = MOST;
+            take_with("a bad outflow and a bad inflow", e, &e->found.inflow[two], MOST_INFLOW + 1);
+            e->found.outflow[one] = outflow;
+        }
+}
+
+/* ---- The first changed row */
+
+static void first_changed_rows(struct edit *e, struct prng *r)
+{
+    for (int i = 0; i < 8; i++)
+        for (size_t row = 1; row <= 12; row++) {
+            start_edit(e, r, 3, i % 3);
+            dry_until(e, row);
+            take_edit("rain from a row on", e);
+            forge(e, r);
+            take_edit("rain from a row on, forged rows", e);
+            for (size_t k = row; k < 12; k++)
+                e->found.outflow[k] = e->found.storage[k] = 0;
+            take_edit("rain from a row on, and the rows after it empty", e);
+        }
+}
+
+/* One row's state put in another place: the tail must start from the row before the first changed, and no other. */
+static void states_before(struct edit *e, struct prng *r)
+{
+    for (size_t row = 2; row <= 12; row++)
+        for (size_t k = 0; k < 12; k++) {
+            start_edit(e, r, 2, (int)k % 2);
+            dry_until(e, row);
+            e->found.outflow[k] = last_pond_row(e)[2] / 2;
+            e->found.storage[k] = half_step(e) * e->found.outflow[k] + last_pond_row(e)[1] / 4 + k;
+            take_edit("water in one row", e);
+        }
+}
+
+/* Rows that stand already as the edit will leave them, up to a row, and as no routing would after it. All water is in
+   by row 90, so that from there on neither record has a part: the tail is written to its end all the same. */
+static void rows_that_meet(struct edit *e, struct prng *r)
+{
+    static struct edit after;
+    for (size_t row = 0; row < 100; row++) {
+        start_edit(e, r, 3, (int)row % 3);
+        set_rows(&e->site, 100);
+        stand(e);
+        after = *e;
+        altered_site(&after.site, e);
+        if (stand(&after) != 0)
+            continue;
+        for (size_t k = 0; k < 100; k++) {
+            e->found.outflow[k] = k < row ? after.found.outflow[k] : 0;
+            e->found.storage[k] = k < row ? after.found.storage[k] : k;
+        }
+        take_edit("rows that stand as they will, up to one", e);
+    }
+}
+
+/* ---- Refusal 14 in the tail: the pond is cut off at, and just below, the X of a row of the altered list's study */
+
+static void flat_pond(struct edit *e, u64 discharge)
+{
+    u64 half = half_step(e);
+    const u64 rows[] = { 0, 0, 0, 100, half * discharge + 1, discharge, 200, 900000000000, discharge };
+    e->site.pond.len = COUNT(rows);
+    memcpy(e->site.pond.at, rows, sizeof rows);
+}
+
+static void cut_pond(struct edit *e, u64 discharge)
+{
+    static struct edit after;
+    u64 half = half_step(e);
+    flat_pond(e, discharge);
+    stand(e);
+    after = *e;
+    altered_site(&after.site, e);
+    stand(&after);
+    for (size_t k = 0; k < e->site.inflow; k++)
+        for (u64 less = 0; less < 3; less++) {
+            u64 cut = after.found.storage[k] + half * after.found.outflow[k] - half * discharge - less;
+            if (cut > half * discharge + 1 && cut <= 1000000000000)
+                take_with("the pond cut off at a row of the altered list", e, &e->site.pond.at[7], cut);
+        }
+}
+
+static void full_tails(struct edit *e, struct prng *r)
+{
+    for (int i = 0; i < 12; i++) {
+        start_edit(e, r, 3, i % 3);
+        for (size_t j = 0; j < BT_MOST_PATCHES; j++)
+            patch_at(e->fresh, j)[2] += 2 * patch_at(old_record(e), j)[2];
+        cut_pond(e, 0);
+        cut_pond(e, between(r, 1, 1000));
+        dry_until(e, between(r, 2, 8));
+        cut_pond(e, between(r, 1, 100000));
+    }
+}
+
+/* ---- Two faults at once, in the order of an edit */
+
+static void fault_place(struct edit *e, int where)
+{
+    e->place = where == 0 ? 0 : where == 1 ? 6 : MOST;
+}
+
+/* Refusals 6 to 11: what the study's fault does to a record, done to the new one. */
+static void fault_fresh(struct edit *e, int number, int where)
+{
+    static struct site other;
+    other = e->site;
+    FAULTS[number - 1](&other, where);
+    e->site.step = other.step;
+    memcpy(e->fresh, record_at(&other, place(where, 5)), sizeof e->fresh);
+}
+
+static void fault_inflow(struct edit *e, int where)
+{
+    e->found.inflow[place(where, 12)] = where == 0 ? MOST : where == 1 ? 0 : MOST_INFLOW + 1;
+}
+
+static void fault_standing(struct edit *e, int where)
+{
+    if (where == 0)
+        e->found.outflow[0] = 10000001;
+    else
+        e->found.storage[place(where, 12)] = where == 1 ? MOST : MOST - 18000000;
+}
+
+/* A pond that holds little, and rows with no water in them, which pass 17. */
+static void fault_full(struct edit *e, int where)
+{
+    FAULTS[BT_REFUSED_FULL - 1](&e->site, where);
+    memset(e->found.outflow, 0, sizeof e->found.outflow);
+    memset(e->found.storage, 0, sizeof e->found.storage);
+}
+
+enum { FRESH = 100 }; /* 6 to 11 of the new record stand as 106 to 111 */
+
+static const int ORDER[] = { 1, 2, 3, 4, 5, 15, 6, 7, 8, 9, 10, 11, 106, 107, 108, 109, 110, 111, 12, 13, 16, 17, 14 };
+
+static void make_fault(struct edit *e, int number, int where)
+{
+    if (number > FRESH)
+        fault_fresh(e, number - FRESH, where);
+    else if (number == BT_REFUSED_FULL)
+        fault_full(e, where);
+    else if (number == BT_REFUSED_EDIT)
+        fault_place(e, where);
+    else if (number == BT_REFUSED_INFLOW)
+        fault_inflow(e, where);
+    else if (number == BT_REFUSED_STANDING)
+        fault_standing(e, where);
+    else
+        FAULTS[number - 1](&e->site, where);
+}
+
+/* The later number's fault goes in first, since some faults make room for others. Each takes each place. */
+static void two_faults(struct edit *e, struct prng *r)
+{
+    for (size_t one = 0; one < COUNT(ORDER); one++)
+        for (size_t two = one; two < COUNT(ORDER); two++)
+            for (int where = 0; where < 9; where++) {
+                start_edit(e, r, 5, (int)(one + two) % 3);
+                make_fault(e, ORDER[two], where / 3);
+                make_fault(e, ORDER[one], where % 3);
+                take_edit("two faults of an edit", e);
+            }
+}
+
+static void every_fault_from_one_on(struct edit *e, struct prng *r)
+{
+    for (size_t one = 0; one < COUNT(ORDER); one++)
+        for (int where = 0; where < 3; where++) {
+            start_edit(e, r, 5, where);
+            for (size_t other = COUNT(ORDER); other-- > one;)
+                make_fault(e, ORDER[other], where);
+            take_edit("every fault of an edit from one number on", e);
+        }
+}
+
+void chosen_edits(u64 seed)
+{
+    static struct edit e;
+    static void (*const all[])(struct edit *, struct prng *) = {
+        same_records, dry_records,   places,             fresh_records, fresh_areas,    fresh_times,
+        found_rows,   order_of_rows, first_changed_rows, states_before, rows_that_meet, full_tails,
+        two_faults,   every_fault_from_one_on,
+    };
+    for (size_t i = 0; i < COUNT(all); i++) {
+        struct prng r = prng_of(seed, 1000 + i);
+        all[i](&e, &r);
+    }
+}
+
+/* ---- Chains */
+
+/* Asks the next edit of rows that stand. */
+static void ask(struct edit *e, struct prng *r)
+{
+    u64 count = subarea_count(&e->site);
+    e->place = chance(r, 97) ? between(r, 1, count) : chance(r, 50) ? 0 : count + between(r, 1, 3);
+    if (chance(r, 85))
+        random_fresh(e, r);
+    else
+        hostile_fresh(e, r);
+}
+
+static void take_chain(const char *kind, struct edit *e, struct prng *r, u64 edits)
+{
+    u64 before[BT_ANSWER_LENGTH];
+    memcpy(before, take_study(kind, &e->site)->answer, sizeof before);
+    while (edits-- > 0) {
+        ask(e, r);
+        const struct result *due = take_standing(kind, e, before);
+        if (due->gave != 0)
+            continue;
+        altered_site(&e->site, e);
+        e->found = due->rows;
+        memcpy(before, due->answer, sizeof before);
+    }
+}
+
+static void accepted(struct edit *e, struct prng *r, void (*make)(struct site *, struct prng *))
+{
+    do {
+        *e = (struct edit){ 0 };
+        make(&e->site, r);
+    } while (stand(e) != 0);
+}
+
+void chain_of_edits(struct prng *r, u64 edits)
+{
+    static struct edit e;
+    accepted(&e, r, likely_site);
+    take_chain("a chain of edits", &e, r, edits);
+}
+
+void large_edit(struct prng *r)
+{
+    static struct edit e;
+    accepted(&e, r, large_site);
+    take_chain("large, and an edit of it", &e, r, 1);
+}

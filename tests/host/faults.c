@@ -1,0 +1,106 @@
+#include "faults.h"
+
+static void fault_rows(struct site *s, int where)
+{
+    if (where == 0)
+        s->inflow++;
+    else if (where == 1)
+        s->outflow--;
+    else
+        s->storage = 0;
+}
+
+static void fault_step(struct site *s, int where)
+{
+    s->step = where == 0 ? 58 : where == 1 ? s->step + 1 : 3602;
+}
+
+static void fault_rain(struct site *s, int where)
+{
+    size_t t = place(where, s->rain.len);
+    s->rain.at[t] = t == 0 ? 1 : where == 1 ? 30001 : s->rain.at[t - 1] - 1;
+}
+
+static void fault_last_number(struct site *s, int where)
+{
+    s->first = where == 0 ? BT_LAST_ROW_NUMBER : where == 1 ? UINT64_MAX : (u64)1 << 63;
+}
+
+static void fault_count(struct site *s, int where)
+{
+    s->subareas.len = where == 0 ? 0 : where == 1 ? s->subareas.len + 1 : 17 * BT_WIDTH;
+}
+
+static void fault_patch(struct site *s, int where)
+{
+    u64 *record = record_at(s, place(where, 5));
+    if (where == 0)
+        record[BT_PATCH_COUNT] = 9;
+    else
+        patch_at(record, 7)[where] = where == 1 ? 5 : 200001;
+}
+
+static void fault_segment(struct site *s, int where)
+{
+    u64 *record = record_at(s, place(where, 5));
+    if (where == 0)
+        record[BT_SEGMENT_COUNT] = 0;
+    else
+        segment_at(record, 0)[where] = where == 1 ? 4001 : 10001;
+}
+
+static void fault_area(struct site *s, int where)
+{
+    patch_at(record_at(s, place(where, 5)), 3)[2] = 200000;
+}
+
+static void fault_concentration(struct site *s, int where)
+{
+    set_concentration(record_at(s, place(where, 5)), 36001);
+}
+
+static void fault_step_above_peak(struct site *s, int where)
+{
+    s->step = 300;
+    set_concentration(record_at(s, place(where, 5)), 360);
+}
+
+static void fault_weights(struct site *s, int where)
+{
+    s->step = 120;
+    set_concentration(record_at(s, place(where, 5)), 21000);
+}
+
+static void fault_pond(struct site *s, int where)
+{
+    u64 *row = pond_row_at(s, place(where, 7));
+    if (where == 0)
+        row[1] = 1;
+    else if (where == 1)
+        row[0] = row[-3];
+    else
+        row[2] = 10000001;
+}
+
+static void fault_pond_storage(struct site *s, int where)
+{
+    size_t row = 1 + place(where, 6);
+    u64 discharge = pond_row_at(s, row)[1] / (s->step / 2) + 1;
+    for (size_t i = row; i < 7; i++)
+        if (pond_row_at(s, i)[2] < discharge)
+            pond_row_at(s, i)[2] = discharge;
+}
+
+static void fault_full(struct site *s, int where)
+{
+    for (size_t i = 0; i < 7; i++) {
+        pond_row_at(s, i)[1] = i * (where == 0 ? 1 : where == 1 ? 1000 : 30000);
+        pond_row_at(s, i)[2] = 0;
+    }
+}
+
+fault *const FAULTS[STUDY_FAULTS] = {
+    fault_rows,    fault_step, fault_rain,          fault_last_number,     fault_count,   fault_patch, fault_segment,
+    fault_area,    fault_concentration,             fault_step_above_peak, fault_weights, fault_pond,
+    fault_pond_storage,                             fault_full,
+};

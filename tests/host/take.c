@@ -1,0 +1,140 @@
+#include "take.h"
+
+#include <inttypes.h>
+#include <stdio.h>
+
+#include "report.h"
+#include "tally.h"
+
+#define COUNT(a) (sizeof(a) / sizeof *(a))
+
+struct run run = { .seed = 1, .sites = 50000, .chains = 6000, .large = 200 };
+struct call call;
+
+static struct result due;
+static const char *by; /* the entry called last, where there are two */
+
+bool wanted(u64 count)
+{
+    if (run.only == 0 || (run.number < run.only && run.only <= run.number + count))
+        return true;
+    run.number += count;
+    return false;
+}
+
+/* Whether this very case is to be taken: the one before it in a chain may not be. */
+static bool next_case(void)
+{
+    run.number++;
+    run.taken += run.only == 0 || run.only == run.number;
+    return run.only == 0 || run.only == run.number;
+}
+
+/* Counts a fault. Gives whether the case is to be printed, and says which it is. */
+static bool to_print(const char *kind, const char *fault)
+{
+    if (fault)
+        run.differ++;
+    if (run.only == 0 && !(fault && run.differ == 1))
+        return false;
+    printf("case %" PRIu64 " of seed %" PRIu64 " (%s%s): %s\n", run.number, run.seed, kind, by,
+           fault ? fault : "agrees");
+    printf("  again: --seed %" PRIu64 " --cases %" PRIu64 " --chains %" PRIu64 " --large %" PRIu64 " --only %" PRIu64
+           "\n", run.seed, run.sites, run.chains, run.large, run.number);
+    return true;
+}
+
+static bool tight(void)
+{
+    return run.number % 4 < 2;
+}
+
+/* ---- Studies */
+
+static const struct {
+    const char *by;
+    void (*make)(struct call *, const struct site *);
+    bool records; /* needs whole ones */
+} STUDIES[] = {
+    { "", engine_study, false },
+    { ", by records", engine_study_records, true },
+};
+
+static bool whole_records(const struct site *s)
+{
+    return s->subareas.len % BT_WIDTH == 0;
+}
+
+static const char *try_study(const struct site *s, size_t entry)
+{
+    if (STUDIES[entry].records && !whole_records(s))
+        return NULL;
+    by = STUDIES[entry].by;
+    lend_study(&call, s, tight());
+    STUDIES[entry].make(&call, s);
+    return study_fault(&call, s, &due);
+}
+
+const struct result *take_study(const char *kind, const struct site *s)
+{
+    const char *fault = NULL;
+    study_due(&due, s);
+    if (!next_case())
+        return &due;
+    count_study(s, &due);
+    for (size_t entry = 0; entry < COUNT(STUDIES) && !fault; entry++)
+        fault = try_study(s, entry);
+    if (to_print(kind, fault))
+        print_study(&call, s, &due, run.only != 0);
+    return &due;
+}
+
+/* ---- Edits */
+
+static void make_edit(const struct edit *e)
+{
+    by = "";
+    lend_edit(&call, e, tight());
+    engine_edit(&call, e);
+    count_edit(e, &due);
+}
+
+const struct result *take_edit(const char *kind, const struct edit *e)
+{
+    edit_due(&due, e);
+    if (!next_case())
+        return &due;
+    make_edit(e);
+    if (to_print(kind, edit_fault(&call, e, &due)))
+        print_edit(&call, e, &due, run.only != 0);
+    return &due;
+}
+
+const struct result *take_standing(const char *kind, const struct edit *e, const u64 *before)
+{
+    static struct site altered;
+    static struct result anew;
+    edit_due(&due, e);
+    if (!next_case())
+        return &due;
+    altered_site(&altered, e);
+    study_due(&anew, &altered);
+    make_edit(e);
+    const char *fault = standing_fault(&call, e, before, &anew), *other = edit_fault(&call, e, &due);
+    if (to_print(kind, fault ? fault : other))
+        print_edit(&call, e, other ? &due : &anew, run.only != 0);
+    return &due;
+}
+
+/* ---- Whole sites */
+
+void take_site(const char *kind, const struct site *s)
+{
+    static struct edit e;
+    if (!wanted(SITE_CASES))
+        return;
+    struct prng r = prng_of(run.seed, run.number + 1);
+    take_study(kind, s);
+    edit_of(&e, s, &r);
+    take_edit(kind, &e);
+}

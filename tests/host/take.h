@@ -1,0 +1,33 @@
+/*
+ * Takes cases: each makes a call, works the same by the reference, compares the two, and is counted. A study of whole
+ * records is called twice: with the flat list, and with the list of records, which is held to the same.
+ */
+#ifndef TAKE_H
+#define TAKE_H
+
+#include "call.h"
+
+/* What a run is asked for, and how far it has come. */
+struct run {
+    u64 seed, sites, chains, large, only; /* only: 0 for all */
+    u64 number, taken, differ;
+};
+
+extern struct run run;
+extern struct call call;
+
+/* Whether one of the next 'count' cases is to be taken; where none is, they are passed over. */
+bool wanted(u64 count);
+
+/* Each of these gives what is due, which holds until the next case. */
+const struct result *take_study(const char *kind, const struct site *s);
+const struct result *take_edit(const char *kind, const struct edit *e);
+
+/* An edit of rows that stand on their list, with the figures they have: it is held to a new study, too. */
+const struct result *take_standing(const char *kind, const struct edit *e, const u64 *before);
+
+/* A site in every function: a study of it, then an edit. */
+enum { SITE_CASES = 2 };
+void take_site(const char *kind, const struct site *s);
+
+#endif

@@ -1,0 +1,128 @@
+#include "tally.h"
+
+#include <inttypes.h>
+#include <stdio.h>
+
+enum { LAST_REFUSAL = 17 };
+
+static struct {
+    u64 study[LAST_REFUSAL + 1], edit[LAST_REFUSAL + 1]; /* by refusal number, 0 for done */
+    u64 full[3];                  /* studies refused with 14 at the first row, between, the last */
+    u64 fresh[LAST_REFUSAL + 1];  /* edits refused for the altered list alone */
+    u64 done[3];                  /* done edits: no row changed, the first on, a later one on */
+    u64 row[LAST_REFUSAL + 1][3]; /* edits refused at a row: before the first changed, from it on, with none changed */
+    u64 records[3];               /* studies of whole records: none, 1 to 16, more */
+    u64 early[2];                 /* of more: refused with 1 to 4, with 5 */
+} tally;
+
+static void count_records(const struct site *s, const struct result *due)
+{
+    size_t count = subarea_count(s);
+    if (s->subareas.len % BT_WIDTH != 0)
+        return;
+    tally.records[count == 0 ? 0 : count <= BT_MOST_SUBAREAS ? 1 : 2]++;
+    if (count > BT_MOST_SUBAREAS)
+        tally.early[due->gave == BT_REFUSED_SUBAREAS]++;
+}
+
+void count_study(const struct site *s, const struct result *due)
+{
+    u64 row = due->answer[BT_PLACE];
+    count_records(s, due);
+    tally.study[due->gave]++;
+    if (due->gave == BT_REFUSED_FULL)
+        tally.full[row == 1 ? 0 : row < s->inflow ? 1 : 2]++;
+}
+
+/* The first row that the edit changes, were it done: 0 if none. */
+static u64 would_change(const struct edit *e)
+{
+    u64 old[ROOM], new[ROOM];
+    const struct site *s = &e->site;
+    reference_parts(s->step, s->rain.at, s->rain.len, s->subareas.at + BT_WIDTH * (e->place - 1), old, s->inflow);
+    reference_parts(s->step, s->rain.at, s->rain.len, e->fresh, new, s->inflow);
+    for (size_t k = 0; k < s->inflow; k++)
+        if (old[k] != new[k])
+            return k + 1;
+    return 0;
+}
+
+static void count_row(const struct edit *e, const struct result *due)
+{
+    u64 first = would_change(e);
+    tally.row[due->gave][first == 0 ? 2 : due->answer[BT_PLACE] < first ? 0 : 1]++;
+}
+
+static bool list_passes(const struct site *s)
+{
+    return reference_list_refusal(s->step, s->subareas.at, s->subareas.len).number == 0;
+}
+
+void count_edit(const struct edit *e, const struct result *due)
+{
+    u64 n = due->gave;
+    tally.edit[n]++;
+    if (n == 0)
+        tally.done[due->answer[BT_CHANGED] < 2 ? due->answer[BT_CHANGED] : 2]++;
+    if (BT_REFUSED_PATCHES <= n && n <= BT_REFUSED_SHORT_STEP && list_passes(&e->site))
+        tally.fresh[n]++;
+    if (n == BT_REFUSED_FULL || n == BT_REFUSED_INFLOW || n == BT_REFUSED_STANDING)
+        count_row(e, due);
+}
+
+/* ---- In print */
+
+static bool all; /* counts printed so far are above 0 */
+
+static void print_count(u64 count)
+{
+    printf(" %8" PRIu64, count);
+    all = all && count != 0;
+}
+
+static void print_ends(void)
+{
+    printf("%-10s %8s %8s\n", "", "studies", "edits");
+    for (int n = 0; n <= LAST_REFUSAL; n++) {
+        if (n == 0)
+            printf("done      ");
+        else
+            printf("refusal %2d", n);
+        if (n <= BT_REFUSED_FULL)
+            print_count(tally.study[n]);
+        else
+            printf(" %8s", "");
+        print_count(tally.edit[n]);
+        printf("\n");
+    }
+}
+
+static void print_counts(const char *what, const u64 *counts, int count)
+{
+    printf("%s:", what);
+    for (int i = 0; i < count; i++)
+        print_count(counts[i]);
+    printf("\n");
+}
+
+static void print_edits(void)
+{
+    print_counts("edits done, none changed, from row 1, from a later row", tally.done, 3);
+    print_counts("edits refused for the altered list alone, 6 to 11", tally.fresh + BT_REFUSED_PATCHES, 6);
+    print_counts("14 in the tail", tally.row[BT_REFUSED_FULL] + 1, 1);
+    print_counts("16 before the first changed row, from it on, where none is", tally.row[BT_REFUSED_INFLOW], 3);
+    print_counts("17 before the first changed row, from it on, where none is", tally.row[BT_REFUSED_STANDING], 3);
+}
+
+bool print_tally(void)
+{
+    all = true;
+    print_ends();
+    print_counts("14 of studies at the first row, between, the last", tally.full, 3);
+    print_counts("studies of no record, of 1 to 16, of more", tally.records, 3);
+    print_counts("of more, refused with 1 to 4, with 5", tally.early, 2);
+    print_edits();
+    if (!all)
+        printf("something in this table is 0: the cases do not reach it\n");
+    return all;
+}

@@ -1,0 +1,13 @@
+/* How the cases of a run ended. */
+#ifndef TALLY_H
+#define TALLY_H
+
+#include "call.h"
+
+void count_study(const struct site *s, const struct result *due);
+void count_edit(const struct edit *e, const struct result *due);
+
+/* Prints the counts; gives whether every one of them is above 0. */
+bool print_tally(void);
+
+#endif
