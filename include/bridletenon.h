@@ -1,8 +1,8 @@
 /*
  * Bridletenon for C and C++ hosts. docs/SCOPE.md (document 01) has the rules, the units and the refusal numbers.
  *
- * Only whole numbers and pointers cross. A list is a pointer and a length, which counts numbers, or records, and not
- * bytes.
+ * Only whole numbers and pointers cross, and the doubles of a mark. A list is a pointer and a length, which counts
+ * numbers, or records, and not bytes.
  *
  * What the caller must see to, since no proof can:
  *   - no pointer is null, also where the length beside it is 0;
@@ -105,6 +105,29 @@ enum {
     BT_CHANGES_LENGTH
 };
 
+/* Places in the answer of a mark: BT_REFUSAL, BT_PLACE, and the kind, which is 0 when refused. */
+enum {
+    BT_KIND = 2,
+    BT_MARK_ANSWER_LENGTH
+};
+
+/* Kinds of marks. */
+enum {
+    BT_KIND_NOTHING, /* the row's outflow is 0 */
+    BT_KIND_OUTFLOW, /* it is above 0 */
+    BT_KIND_PEAK     /* it is above 0, and the row is the first that has the greatest outflow */
+};
+
+/* Places in the values of a mark. Each double is a whole number, exactly. Refused: zeros. */
+enum {
+    BT_MARK_OUTFLOW,  /* outflow and peak: the row's outflow, in thousandths of a cubic foot a second; else 0 */
+    BT_MARK_STAGE,    /* peak: the row's stage, in thousandths of a foot; else 0 */
+    BT_POINT_ROW,     /* the row's number, first + row - 1 */
+    BT_POINT_SECONDS, /* seconds from the start to the row's end, row times step */
+    BT_POINT_OUTFLOW, /* the row's outflow */
+    BT_VALUES_LENGTH
+};
+
 /* Refusal numbers, and after the semicolon what the place beside each of them is. Subareas, rows and pond rows count
    from 1, rain entries from 0. Each number is given for the first place that has the fault. */
 enum {
@@ -124,8 +147,9 @@ enum {
     BT_REFUSED_FULL = 14,         /* more water than the pond's last row holds; row */
     BT_REFUSED_EDIT = 15,         /* edit: the place is not in the list of subareas; 0 */
     BT_REFUSED_INFLOW = 16,       /* edit: an inflow row below the old record's part, or above 217,800,000,000; row */
-    BT_REFUSED_STANDING = 17      /* edit: outflow above the last discharge, storage below half the step times outflow,
-                                     or the two together above what the pond's last row holds; row */
+    BT_REFUSED_STANDING = 17,     /* edit, mark: outflow above the last discharge, storage below half the step times
+                                     outflow, or the two together above what the pond's last row holds; row */
+    BT_REFUSED_ASKED = 18         /* mark: the row asked is not 1 to m; 0 */
 };
 
 /* ---- Calls. Each gives the refusal number, 0 when done, and writes its answers whole either way. */
@@ -162,6 +186,15 @@ uint64_t bt_edit(uint64_t step, uint64_t first, const uint64_t *rain, size_t rai
                  uint64_t *outflow, size_t outflow_len, uint64_t *storage, size_t storage_len, uint64_t place,
                  const uint64_t fresh[BT_WIDTH], uint64_t answer[BT_EDIT_ANSWER_LENGTH],
                  int64_t changes[BT_CHANGES_LENGTH]);
+
+/*
+ * The chart mark of one row, from 1, of the rows that stand in the lists. All rows are looked at for 17, whichever is
+ * asked; of inflow only the length is. Nothing but the answer and the values is written.
+ */
+uint64_t bt_mark(uint64_t step, uint64_t first, const uint64_t *pond, size_t pond_len, const uint64_t *inflow,
+                 size_t inflow_len, const uint64_t *outflow, size_t outflow_len, const uint64_t *storage,
+                 size_t storage_len, uint64_t row, uint64_t answer[BT_MARK_ANSWER_LENGTH],
+                 double values[BT_VALUES_LENGTH]);
 
 #ifdef __cplusplus
 }

@@ -4,8 +4,8 @@
 
 void call_open(struct call *c)
 {
-    struct lent_list *lists[] = { &c->rain,    &c->subareas, &c->pond,   &c->inflow, &c->outflow,
-                                  &c->storage, &c->fresh,    &c->answer, &c->changes };
+    struct lent_list *lists[] = { &c->rain,    &c->subareas, &c->pond,   &c->inflow,  &c->outflow,
+                                  &c->storage, &c->fresh,    &c->answer, &c->changes, &c->values };
     for (size_t i = 0; i < sizeof lists / sizeof *lists; i++)
         lend_open(lists[i]);
 }
@@ -17,6 +17,13 @@ static void lend_inputs(struct call *c, const struct site *s, bool tight)
     lend(&c->rain, s->rain.at, s->rain.len, tight);
     lend(&c->subareas, s->subareas.at, s->subareas.len, tight);
     lend(&c->pond, s->pond.at, s->pond.len, tight);
+}
+
+static void lend_rows(struct call *c, const struct site *s, const struct columns *found, bool tight)
+{
+    lend(&c->inflow, found->inflow, s->inflow, tight);
+    lend(&c->outflow, found->outflow, s->outflow, tight);
+    lend(&c->storage, found->storage, s->storage, tight);
 }
 
 void lend_study(struct call *c, const struct site *s, bool tight)
@@ -31,12 +38,18 @@ void lend_study(struct call *c, const struct site *s, bool tight)
 void lend_edit(struct call *c, const struct edit *e, bool tight)
 {
     lend_inputs(c, &e->site, tight);
-    lend(&c->inflow, e->found.inflow, e->site.inflow, tight);
-    lend(&c->outflow, e->found.outflow, e->site.outflow, tight);
-    lend(&c->storage, e->found.storage, e->site.storage, tight);
+    lend_rows(c, &e->site, &e->found, tight);
     lend(&c->fresh, e->fresh, BT_WIDTH, tight);
     lend(&c->answer, NULL, BT_EDIT_ANSWER_LENGTH, tight);
     lend(&c->changes, NULL, BT_CHANGES_LENGTH, tight);
+}
+
+void lend_mark(struct call *c, const struct mark *m, bool tight)
+{
+    lend(&c->pond, m->site.pond.at, m->site.pond.len, tight);
+    lend_rows(c, &m->site, &m->found, tight);
+    lend(&c->answer, NULL, BT_MARK_ANSWER_LENGTH, tight);
+    lend(&c->values, NULL, BT_VALUES_LENGTH, tight);
 }
 
 /* ---- The calls */
@@ -79,12 +92,31 @@ void edit_due(struct result *r, const struct edit *e)
                              s->storage, e->place, e->fresh, r->answer, r->changes);
 }
 
+void engine_mark(struct call *c, const struct mark *m)
+{
+    c->gave = bt_mark(m->site.step, m->site.first, c->pond.at, c->pond.len, c->inflow.at, c->inflow.len, c->outflow.at,
+                      c->outflow.len, c->storage.at, c->storage.len, m->row, c->answer.at, (double *)c->values.at);
+}
+
+void mark_due(struct result *r, const struct mark *m)
+{
+    const struct site *s = &m->site;
+    r->gave = reference_mark(s->step, s->first, s->pond.at, s->pond.len, s->inflow, m->found.outflow, s->outflow,
+                             m->found.storage, s->storage, m->row, r->answer, r->values);
+}
+
 /* ---- What may be wrong with any call */
+
+/* Lists that every call has. */
+static bool shared_guards_hold(const struct call *c)
+{
+    return guards_hold(&c->pond) && guards_hold(&c->inflow) && guards_hold(&c->outflow) && guards_hold(&c->storage) &&
+           guards_hold(&c->answer);
+}
 
 static const char *inputs_fault(const struct call *c, const struct site *s)
 {
-    if (!guards_hold(&c->rain) || !guards_hold(&c->subareas) || !guards_hold(&c->pond) || !guards_hold(&c->inflow) ||
-        !guards_hold(&c->outflow) || !guards_hold(&c->storage) || !guards_hold(&c->answer))
+    if (!guards_hold(&c->rain) || !guards_hold(&c->subareas) || !shared_guards_hold(c))
         return "written outside a list";
     if (!holds(&c->rain, s->rain.at) || !holds(&c->subareas, s->subareas.at) || !holds(&c->pond, s->pond.at))
         return "an input was changed";
@@ -198,4 +230,37 @@ const char *standing_fault(const struct call *c, const struct edit *e, const u64
         changes[BT_RELEASED_CHANGE] != (int64_t)(after[BT_RELEASED] - before[BT_RELEASED]))
         return "the changes are not the new figures less those before";
     return NULL;
+}
+
+/* ---- A mark */
+
+double value_of(const struct call *c, size_t i)
+{
+    double value;
+    memcpy(&value, c->values.at + i, sizeof value);
+    return value;
+}
+
+/* Each double is the whole number itself, and going back gives the same number. No double here is a negative zero. */
+static bool values_hold(const struct call *c, const u64 *due)
+{
+    for (size_t i = 0; i < BT_VALUES_LENGTH; i++) {
+        double value = value_of(c, i);
+        if (!(value == (double)due[i]) || (u64)value != due[i] || c->values.at[i] >> 63 != 0)
+            return false;
+    }
+    return true;
+}
+
+const char *mark_fault(const struct call *c, const struct mark *m, const struct result *due)
+{
+    if (!shared_guards_hold(c) || !guards_hold(&c->values))
+        return "written outside a list";
+    if (!holds(&c->pond, m->site.pond.at) || rows_fault(c, &m->found))
+        return "an input was changed";
+    if (c->gave != due->gave)
+        return "the number given back differs";
+    if (!holds(&c->answer, due->answer))
+        return "the answer differs";
+    return values_hold(c, due->values) ? NULL : "the values differ";
 }

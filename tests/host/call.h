@@ -4,15 +4,17 @@
 
 #include "edit.h"
 #include "lend.h"
+#include "mark.h"
 
 /* What is lent to a call. One list serves every function that has it. */
 struct call {
-    struct lent_list rain, subareas, pond, inflow, outflow, storage, fresh, answer, changes;
+    struct lent_list rain, subareas, pond, inflow, outflow, storage, fresh, answer, changes, values;
     u64 gave;
 };
 
+/* What is due of any of them. The values are whole numbers: the doubles are to be the same. */
 struct result {
-    u64 gave, answer[BT_EDIT_ANSWER_LENGTH];
+    u64 gave, answer[BT_EDIT_ANSWER_LENGTH], values[BT_VALUES_LENGTH];
     int64_t changes[BT_CHANGES_LENGTH];
     struct columns rows;
 };
@@ -41,5 +43,14 @@ const char *edit_fault(const struct call *c, const struct edit *e, const struct 
 /* The same of an edit of rows that stand on their list: 'before' has the figures they had, 'anew' is the reference's
    new study of the altered list. */
 const char *standing_fault(const struct call *c, const struct edit *e, const u64 *before, const struct result *anew);
+
+/* ---- A mark */
+
+void lend_mark(struct call *c, const struct mark *m, bool tight);
+void engine_mark(struct call *c, const struct mark *m);
+void mark_due(struct result *r, const struct mark *m);
+
+const char *mark_fault(const struct call *c, const struct mark *m, const struct result *due);
+double value_of(const struct call *c, size_t i); /* as it was written */
 
 #endif

@@ -6,21 +6,6 @@ static const u64 MOST_INFLOW = 217800000000u;
 
 /* ---- Parts */
 
-u64 half_step(const struct edit *e)
-{
-    return e->site.step / 2;
-}
-
-const u64 *last_pond_row(const struct edit *e)
-{
-    return e->site.pond.at + e->site.pond.len - BT_POND_WIDTH;
-}
-
-u64 pond_top(const struct edit *e)
-{
-    return last_pond_row(e)[1] + half_step(e) * last_pond_row(e)[2];
-}
-
 static bool place_listed(const struct edit *e)
 {
     return 1 <= e->place && e->place <= subarea_count(&e->site);
@@ -35,11 +20,7 @@ u64 *old_record(struct edit *e)
 
 u64 stand(struct edit *e)
 {
-    const struct site *s = &e->site;
-    u64 answer[BT_ANSWER_LENGTH];
-    return reference_study(s->step, s->first, s->rain.at, s->rain.len, s->subareas.at, s->subareas.len, s->pond.at,
-                           s->pond.len, e->found.inflow, s->inflow, e->found.outflow, s->outflow, e->found.storage,
-                           s->storage, answer);
+    return study_rows(&e->site, &e->found);
 }
 
 /* The old record's parts; none where the place is not in the list. */
@@ -51,32 +32,13 @@ static void old_parts(const struct edit *e, u64 *parts)
         reference_parts(s->step, s->rain.at, s->rain.len, s->subareas.at + BT_WIDTH * (e->place - 1), parts, s->inflow);
 }
 
-/* From 0 to 'most', often at an end. */
-static u64 up_to(struct prng *r, u64 most)
-{
-    return chance(r, 15) ? 0 : chance(r, 15) ? most : between(r, 0, most);
-}
-
 void forge(struct edit *e, struct prng *r)
 {
-    u64 parts[ROOM], top = pond_top(e), half = half_step(e), discharge = last_pond_row(e)[2];
-    u64 most = chance(r, 30) ? MOST_INFLOW / 2 : top / (2 * e->site.inflow) + 1;
+    u64 parts[ROOM], few = pond_top(&e->site) / (2 * e->site.inflow) + 1, most = chance(r, 30) ? MOST_INFLOW / 2 : few;
     old_parts(e, parts);
-    for (size_t k = 0; k < e->site.inflow; k++) {
-        u64 outflow = up_to(r, discharge / (chance(r, 50) ? 1 : 4));
+    forge_states(&e->site, &e->found, r);
+    for (size_t k = 0; k < e->site.inflow; k++)
         e->found.inflow[k] = parts[k] + up_to(r, most);
-        e->found.outflow[k] = outflow;
-        e->found.storage[k] = half * outflow + up_to(r, (top - 2 * half * outflow) / (chance(r, 50) ? 1 : 4));
-    }
-}
-
-void scrawl(struct edit *e, struct prng *r)
-{
-    for (size_t k = 0; k < ROOM; k++) {
-        e->found.inflow[k] = nasty(r, k);
-        e->found.outflow[k] = nasty(r, k);
-        e->found.storage[k] = nasty(r, k);
-    }
 }
 
 static void spoil_inflow(struct edit *e, size_t k, struct prng *r)
@@ -87,29 +49,13 @@ static void spoil_inflow(struct edit *e, size_t k, struct prng *r)
     e->found.inflow[k] = values[below(r, 7)];
 }
 
-static void spoil_outflow(struct edit *e, size_t k, struct prng *r)
-{
-    u64 most = last_pond_row(e)[2], wraps = UINT64_MAX / half_step(e) + 1;
-    const u64 values[] = { most, most + 1, wraps, UINT64_MAX, (u64)1 << 63, nasty(r, most) };
-    e->found.outflow[k] = values[below(r, 6)];
-}
-
-/* At and beside h times outflow, what is left of the last X_i, and what makes a sum of 64 bits wrap. */
-static void spoil_storage(struct edit *e, size_t k, struct prng *r)
-{
-    u64 least = half_step(e) * e->found.outflow[k], most = pond_top(e) - least;
-    const u64 values[] = { least, least - 1, most, most + 1, 0 - least, UINT64_MAX, nasty(r, most) };
-    e->found.storage[k] = values[below(r, 7)];
-}
-
 void spoil_row(struct edit *e, struct prng *r)
 {
     size_t k = below(r, e->site.inflow);
-    switch (below(r, 3)) {
-    case 0: spoil_inflow(e, k, r); break;
-    case 1: spoil_outflow(e, k, r); break;
-    default: spoil_storage(e, k, r); break;
-    }
+    if (chance(r, 34))
+        spoil_inflow(e, k, r);
+    else
+        spoil_state(&e->site, &e->found, k, r);
 }
 
 /* ---- The new record */
@@ -191,7 +137,7 @@ static void find_rows(struct edit *e, struct prng *r)
 {
     u64 refusal = stand(e);
     if (refusal != 0 && refusal != BT_REFUSED_FULL) {
-        scrawl(e, r);
+        scrawl(&e->found, r);
         return;
     }
     if (refusal != 0 || chance(r, 40))

@@ -2,7 +2,7 @@
 #ifndef EDIT_H
 #define EDIT_H
 
-#include "site.h"
+#include "found.h"
 
 struct edit {
     struct site site;
@@ -10,21 +10,14 @@ struct edit {
     u64 place, fresh[BT_WIDTH];
 };
 
-u64 half_step(const struct edit *e);
-const u64 *last_pond_row(const struct edit *e);
-u64 pond_top(const struct edit *e);      /* the last X_i */
-u64 *old_record(struct edit *e);         /* the first where the place is not in the list */
+u64 *old_record(struct edit *e); /* the first where the place is not in the list */
 
 /* ---- Rows as found. A site is workable where a study of it is done, or refused by 14 alone. */
 
-/* The rows of the site's study. Gives the refusal number, and leaves the rows be, where it is refused. */
-u64 stand(struct edit *e);
+u64 stand(struct edit *e); /* as study_rows */
 
 /* Rows that no study left, within the limits of 16 and 17; on a workable site. */
 void forge(struct edit *e, struct prng *r);
-
-/* Any numbers at all. */
-void scrawl(struct edit *e, struct prng *r);
 
 /* One number of one row at a limit of 16 or 17, or one past it; on a workable site. */
 void spoil_row(struct edit *e, struct prng *r);

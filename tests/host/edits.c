@@ -220,7 +220,7 @@ static void inflow_at_limits(struct edit *e, size_t k)
 
 static void outflow_at_limits(struct edit *e, size_t k)
 {
-    u64 discharge = last_pond_row(e)[2], half = half_step(e), was = e->found.storage[k];
+    u64 discharge = last_pond_row(&e->site)[2], half = half_step(&e->site), was = e->found.storage[k];
     const u64 values[] = { 0, discharge, discharge + 1, MOST, MOST / half + 1, MOST / half, (u64)1 << 63 };
     for (int stored = 0; stored < 2; stored++) {
         for (size_t i = 0; i < COUNT(values); i++)
@@ -233,9 +233,9 @@ static void outflow_at_limits(struct edit *e, size_t k)
 /* With no outflow and with the greatest. The last values make storage and h times outflow wrap to 0 and 1. */
 static void storage_at_limits(struct edit *e, size_t k)
 {
-    u64 discharge = last_pond_row(e)[2], top = pond_top(e), was = e->found.outflow[k];
+    u64 discharge = last_pond_row(&e->site)[2], top = pond_top(&e->site), was = e->found.outflow[k];
     for (int open = 0; open < 2; open++) {
-        u64 least = open ? half_step(e) * discharge : 0;
+        u64 least = open ? half_step(&e->site) * discharge : 0;
         const u64 values[] = { least - 1, least,   least + 1,    top - least - 1, top - least, top - least + 1,
                                top,       top + 1, (u64)1 << 63, MOST,            0 - least,   1 - least };
         e->found.outflow[k] = open ? discharge : 0;
@@ -309,8 +309,8 @@ static void states_before(struct edit *e, struct prng *r)
         for (size_t k = 0; k < 12; k++) {
             start_edit(e, r, 2, (int)k % 2);
             dry_until(e, row);
-            e->found.outflow[k] = last_pond_row(e)[2] / 2;
-            e->found.storage[k] = half_step(e) * e->found.outflow[k] + last_pond_row(e)[1] / 4 + k;
+            e->found.outflow[k] = last_pond_row(&e->site)[2] / 2;
+            e->found.storage[k] = half_step(&e->site) * e->found.outflow[k] + last_pond_row(&e->site)[1] / 4 + k;
             take_edit("water in one row", e);
         }
 }
@@ -340,7 +340,7 @@ static void rows_that_meet(struct edit *e, struct prng *r)
 
 static void flat_pond(struct edit *e, u64 discharge)
 {
-    u64 half = half_step(e);
+    u64 half = half_step(&e->site);
     const u64 rows[] = { 0, 0, 0, 100, half * discharge + 1, discharge, 200, 900000000000, discharge };
     e->site.pond.len = COUNT(rows);
     memcpy(e->site.pond.at, rows, sizeof rows);
@@ -349,7 +349,7 @@ static void flat_pond(struct edit *e, u64 discharge)
 static void cut_pond(struct edit *e, u64 discharge)
 {
     static struct edit after;
-    u64 half = half_step(e);
+    u64 half = half_step(&e->site);
     flat_pond(e, discharge);
     stand(e);
     after = *e;
@@ -485,19 +485,34 @@ static void ask(struct edit *e, struct prng *r)
         hostile_fresh(e, r);
 }
 
+/* A mark of the rows then standing: of the peak row, as the figures have it, or of any. */
+static void mark_standing(const char *kind, const struct edit *e, const u64 *figures, struct prng *r)
+{
+    static struct mark m;
+    m = (struct mark){ e->site, e->found, chance(r, 50) ? figures[BT_ROW] : between(r, 1, e->site.inflow) };
+    take_mark(kind, &m);
+}
+
 static void take_chain(const char *kind, struct edit *e, struct prng *r, u64 edits)
 {
-    u64 before[BT_ANSWER_LENGTH];
-    memcpy(before, take_study(kind, &e->site)->answer, sizeof before);
+    u64 figures[BT_ANSWER_LENGTH];
+    memcpy(figures, take_study(kind, &e->site)->answer, sizeof figures);
+    mark_standing(kind, e, figures, r);
     while (edits-- > 0) {
         ask(e, r);
-        const struct result *due = take_standing(kind, e, before);
-        if (due->gave != 0)
-            continue;
-        altered_site(&e->site, e);
-        e->found = due->rows;
-        memcpy(before, due->answer, sizeof before);
+        const struct result *due = take_standing(kind, e, figures);
+        if (due->gave == 0) {
+            altered_site(&e->site, e);
+            e->found = due->rows;
+            memcpy(figures, due->answer, sizeof figures);
+        }
+        mark_standing(kind, e, figures, r);
     }
+}
+
+u64 chain_cases(u64 edits)
+{
+    return 2 * (1 + edits);
 }
 
 static void accepted(struct edit *e, struct prng *r, void (*make)(struct site *, struct prng *))
@@ -515,9 +530,9 @@ void chain_of_edits(struct prng *r, u64 edits)
     take_chain("a chain of edits", &e, r, edits);
 }
 
-void large_edit(struct prng *r)
+void large_chain(struct prng *r)
 {
     static struct edit e;
     accepted(&e, r, large_site);
-    take_chain("large, and an edit of it", &e, r, 1);
+    take_chain("large, and an edit of it", &e, r, LARGE_EDITS);
 }

@@ -6,10 +6,12 @@
 
 void chosen_edits(u64 seed);
 
-/* A likely study, then so many edits, each of what the one before left: 1 + 'edits' cases. */
+/* A likely study, then so many edits, each of what the one before left, and a mark after each of them. */
 void chain_of_edits(struct prng *r, u64 edits);
+u64 chain_cases(u64 edits);
 
-/* A large study and one edit of it: 2 cases. */
-void large_edit(struct prng *r);
+/* A large study, one edit of it, and marks. */
+void large_chain(struct prng *r);
+enum { LARGE_EDITS = 1 };
 
 #endif

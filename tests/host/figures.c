@@ -135,6 +135,31 @@ static void found_rows(void)
     figure("a sum that wraps to 0", edit_small(&wraps), 17);
 }
 
+/* ---- Marks of a few rows in document 01's pond */
+
+static u64 mark_small(const u64 *outflow, const u64 *storage, size_t rows, u64 row, u64 *answer, u64 *values)
+{
+    return reference_mark(60, 1, POND, 6, rows, outflow, rows, storage, rows, row, answer, values);
+}
+
+static void marks(void)
+{
+    static const u64 fading[] = { 50, 0 }, little[] = { 4500, 29 }, level[] = { 50, 50 }, same[] = { 4500, 4500 };
+    static const u64 over[] = { 50, 25, 101 }, stored[] = { 4500, 2250, 4500 };
+    u64 answer[BT_MARK_ANSWER_LENGTH], values[BT_VALUES_LENGTH];
+    figure("a mark of no outflow", mark_small(fading, little, 2, 2, answer, values), 0);
+    figure("its kind", answer[BT_KIND], BT_KIND_NOTHING);
+    figure("its point's row number", values[BT_POINT_ROW], 2);
+    figure("its point's seconds", values[BT_POINT_SECONDS], 120);
+    figure("a mark of the peak row", mark_small(level, same, 2, 1, answer, values), 0);
+    figure("its kind", answer[BT_KIND], BT_KIND_PEAK);
+    figure("its stage", values[BT_MARK_STAGE], 500);
+    figure("a mark of a later row as high", mark_small(level, same, 2, 2, answer, values), 0);
+    figure("its kind", answer[BT_KIND], BT_KIND_OUTFLOW);
+    figure("17 is of every row, whichever is asked", mark_small(over, stored, 3, 1, answer, values), 17);
+    figure("its place", answer[BT_PLACE], 3);
+}
+
 int figures_wrong(void)
 {
     tried = wrong = 0;
@@ -144,6 +169,7 @@ int figures_wrong(void)
     limits();
     nothing_changed();
     found_rows();
+    marks();
     return wrong;
 }
 

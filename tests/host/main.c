@@ -2,9 +2,10 @@
  * Holds the engine's C interface to an independent reading of document 01, on chosen, random and large cases.
  *
  *   --seed N    another seed (default 1)
- *   --cases N   how many random small sites, each a study and an edit (default 50000)
- *   --chains N  how many chains: a study, then 3 to 8 edits, each of what the one before left (default 6000)
- *   --large N   how many large studies, each with an edit (default 200)
+ *   --cases N   how many random small sites, each a study, an edit and a mark (default 50000)
+ *   --chains N  how many chains: a study, then 3 to 8 edits, each of what the one before left, and marks
+ *               (default 6000)
+ *   --large N   how many large studies, each with an edit and marks (default 200)
  *   --only N    case N alone, and all of it printed
  *   --bench     times the engine and the reference instead
  */
@@ -18,6 +19,7 @@
 #include "cases.h"
 #include "edits.h"
 #include "figures.h"
+#include "marks.h"
 #include "measure.h"
 #include "stack.h"
 #include "take.h"
@@ -31,6 +33,7 @@ _Static_assert(offsetof(bt_subarea, segment_count) == BT_SEGMENT_COUNT * sizeof(
 _Static_assert(offsetof(bt_subarea, segments) == BT_SEGMENTS * sizeof(u64), "segments");
 _Static_assert(sizeof(bt_patch) == BT_PATCH_WIDTH * sizeof(u64) && sizeof(bt_segment) == BT_SEGMENT_WIDTH * sizeof(u64),
                "patches and segments");
+_Static_assert(BT_MARK_ANSWER_LENGTH == 3 && BT_VALUES_LENGTH == 5, "a mark's answer");
 _Static_assert(BT_SEGMENTS + BT_MOST_SEGMENTS * BT_SEGMENT_WIDTH == BT_WIDTH, "a record has 44 numbers");
 
 /* ---- Running cases. Random ones start from the number of their first case. */
@@ -49,21 +52,22 @@ static void random_site(const char *kind, void (*make)(struct site *, struct prn
 static void random_chain(u64 edits)
 {
     struct prng r = prng_of(run.seed, run.number + 1);
-    if (wanted(1 + edits))
+    if (wanted(chain_cases(edits)))
         chain_of_edits(&r, edits);
 }
 
 static void random_large(void)
 {
     struct prng r = prng_of(run.seed, run.number + 1);
-    if (wanted(2))
-        large_edit(&r);
+    if (wanted(chain_cases(LARGE_EDITS)))
+        large_chain(&r);
 }
 
 static void run_cases(void)
 {
     chosen_cases(run.seed);
     chosen_edits(run.seed);
+    chosen_marks(run.seed);
     printf("%" PRIu64 " chosen cases\n", run.number);
     for (u64 i = 0; i < run.large; i++)
         random_large();

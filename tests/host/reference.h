@@ -1,6 +1,6 @@
 /*
- * Document 01 (docs/SCOPE.md) once more, in plain C: studies and edits worked from the text of the rules and from
- * nothing of the engine. Slow and plain on purpose. Whole numbers only; sums and products are 128 bits wide.
+ * Document 01 (docs/SCOPE.md) once more, in plain C: studies, edits and marks worked from the text of the rules and
+ * from nothing of the engine. Slow and plain on purpose. Whole numbers only; sums and products are 128 bits wide.
  */
 #ifndef REFERENCE_H
 #define REFERENCE_H
@@ -41,6 +41,11 @@ u64 reference_study(u64 step, u64 first, const u64 *rain, size_t rain_len, const
 u64 reference_edit(u64 step, u64 first, const u64 *rain, size_t rain_len, const u64 *subareas, size_t subareas_len,
                    const u64 *pond, size_t pond_len, u64 *inflow, size_t inflow_len, u64 *outflow, size_t outflow_len,
                    u64 *storage, size_t storage_len, u64 place, const u64 *fresh, u64 *answer, int64_t *changes);
+
+/* A whole mark, with the parameters and the answer of bt_mark, but for inflow, of which nothing but the length is read.
+   Its values are the whole numbers that the doubles are to be. */
+u64 reference_mark(u64 step, u64 first, const u64 *pond, size_t pond_len, size_t inflow_len, const u64 *outflow,
+                   size_t outflow_len, const u64 *storage, size_t storage_len, u64 row, u64 *answer, u64 *values);
 
 /* A record's part of each of m rows' inflow volume. It and the rain are within document 01's limits. */
 void reference_parts(u64 step, const u64 *rain, size_t rain_len, const u64 *record, u64 *parts, size_t m);

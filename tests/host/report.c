@@ -11,10 +11,15 @@ static void print_list(const char *name, const u64 *at, size_t len, size_t width
     printf("\n");
 }
 
-static void print_site(const struct site *s)
+static void print_setup(const struct site *s)
 {
     printf("  step %" PRIu64 ", first %" PRIu64 ", row lists of %zu, %zu, %zu\n", s->step, s->first, s->inflow,
            s->outflow, s->storage);
+}
+
+static void print_site(const struct site *s)
+{
+    print_setup(s);
     print_list("rain", s->rain.at, s->rain.len, 20);
     print_list("subareas", s->subareas.at, s->subareas.len, BT_WIDTH);
     print_list("pond", s->pond.at, s->pond.len, BT_POND_WIDTH);
@@ -52,6 +57,13 @@ void print_study(const struct call *c, const struct site *s, const struct result
         print_rows(c, &due->rows, whole);
 }
 
+static void print_found(const struct site *s, const struct columns *found)
+{
+    print_list("inflow as found", found->inflow, s->inflow, 10);
+    print_list("outflow as found", found->outflow, s->outflow, 10);
+    print_list("storage as found", found->storage, s->storage, 10);
+}
+
 static void print_changes(const char *whose, const int64_t *changes)
 {
     printf("  %s changes: %" PRId64 " %" PRId64 "\n", whose, changes[0], changes[1]);
@@ -62,11 +74,20 @@ void print_edit(const struct call *c, const struct edit *e, const struct result 
     print_site(&e->site);
     printf("  place %" PRIu64 "\n", e->place);
     print_list("new record", e->fresh, BT_WIDTH, BT_WIDTH);
-    print_list("inflow as found", e->found.inflow, e->site.inflow, 10);
-    print_list("outflow as found", e->found.outflow, e->site.outflow, 10);
-    print_list("storage as found", e->found.storage, e->site.storage, 10);
+    print_found(&e->site, &e->found);
     print_answers(c, due);
     print_changes("engine's", (const int64_t *)c->changes.at);
     print_changes("reference's", due->changes);
     print_rows(c, &due->rows, whole);
+}
+
+void print_mark(const struct call *c, const struct mark *m, const struct result *due)
+{
+    print_setup(&m->site);
+    print_list("pond", m->site.pond.at, m->site.pond.len, BT_POND_WIDTH);
+    print_found(&m->site, &m->found);
+    printf("  row asked %" PRIu64 "\n", m->row);
+    print_answers(c, due);
+    for (size_t i = 0; i < BT_VALUES_LENGTH; i++)
+        printf("  value %zu: engine %.17g, reference %" PRIu64 "\n", i, value_of(c, i), due->values[i]);
 }

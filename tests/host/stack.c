@@ -76,28 +76,41 @@ static void make_edit(void *given)
     engine_edit(&call, given);
 }
 
+static void make_mark(void *given)
+{
+    engine_mark(&call, given);
+}
+
 static void print_most(const char *what, size_t most)
 {
     printf("stack: %s takes %zu bytes%s\n", what, most, most > UNSEEN ? "" : " or less");
 }
 
+static void keep_most(size_t *most, size_t used)
+{
+    *most = used > *most ? used : *most;
+}
+
 void print_stack(u64 seed)
 {
     static struct edit e;
-    size_t study = 0, edit = 0;
+    static struct mark m;
+    size_t study = 0, edit = 0, mark = 0;
     for (u64 i = 1; i <= 8; i++) {
         struct prng r = prng_of(seed, i);
         e = (struct edit){ .place = 1 };
         (i % 2 == 0 ? likely_site : large_site)(&e.site, &r);
         lend_study(&call, &e.site, false);
-        size_t used = stack_of(make_study, &e);
-        study = used > study ? used : study;
+        keep_most(&study, stack_of(make_study, &e));
         stand(&e);
         fitting_record(&e.site, e.fresh, &r, BT_MOST_PATCHES);
         lend_edit(&call, &e, false);
-        used = stack_of(make_edit, &e);
-        edit = used > edit ? used : edit;
+        keep_most(&edit, stack_of(make_edit, &e));
+        m = (struct mark){ e.site, e.found, 1 };
+        lend_mark(&call, &m, false);
+        keep_most(&mark, stack_of(make_mark, &m));
     }
     print_most("a study", study);
     print_most("an edit", edit);
+    print_most("a mark", mark);
 }

@@ -126,15 +126,34 @@ const struct result *take_standing(const char *kind, const struct edit *e, const
     return &due;
 }
 
+/* ---- Marks */
+
+const struct result *take_mark(const char *kind, const struct mark *m)
+{
+    mark_due(&due, m);
+    if (!next_case())
+        return &due;
+    by = "";
+    lend_mark(&call, m, tight());
+    engine_mark(&call, m);
+    count_mark(m, &due);
+    if (to_print(kind, mark_fault(&call, m, &due)))
+        print_mark(&call, m, &due);
+    return &due;
+}
+
 /* ---- Whole sites */
 
 void take_site(const char *kind, const struct site *s)
 {
     static struct edit e;
+    static struct mark m;
     if (!wanted(SITE_CASES))
         return;
     struct prng r = prng_of(run.seed, run.number + 1);
     take_study(kind, s);
     edit_of(&e, s, &r);
     take_edit(kind, &e);
+    mark_of(&m, s, &r);
+    take_mark(kind, &m);
 }

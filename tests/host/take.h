@@ -23,11 +23,13 @@ bool wanted(u64 count);
 const struct result *take_study(const char *kind, const struct site *s);
 const struct result *take_edit(const char *kind, const struct edit *e);
 
+const struct result *take_mark(const char *kind, const struct mark *m);
+
 /* An edit of rows that stand on their list, with the figures they have: it is held to a new study, too. */
 const struct result *take_standing(const char *kind, const struct edit *e, const u64 *before);
 
-/* A site in every function: a study of it, then an edit. */
-enum { SITE_CASES = 2 };
+/* A site in every function: a study of it, then an edit, then a mark. */
+enum { SITE_CASES = 3 };
 void take_site(const char *kind, const struct site *s);
 
 #endif

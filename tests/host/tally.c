@@ -3,16 +3,18 @@
 #include <inttypes.h>
 #include <stdio.h>
 
-enum { LAST_REFUSAL = 17 };
+enum { LAST_REFUSAL = 18 };
 
 static struct {
-    u64 study[LAST_REFUSAL + 1], edit[LAST_REFUSAL + 1]; /* by refusal number, 0 for done */
+    u64 study[LAST_REFUSAL + 1], edit[LAST_REFUSAL + 1], mark[LAST_REFUSAL + 1]; /* by refusal number, 0 for done */
     u64 full[3];                  /* studies refused with 14 at the first row, between, the last */
     u64 fresh[LAST_REFUSAL + 1];  /* edits refused for the altered list alone */
     u64 done[3];                  /* done edits: no row changed, the first on, a later one on */
     u64 row[LAST_REFUSAL + 1][3]; /* edits refused at a row: before the first changed, from it on, with none changed */
     u64 records[3];               /* studies of whole records: none, 1 to 16, more */
     u64 early[2];                 /* of more: refused with 1 to 4, with 5 */
+    u64 kind[3];                  /* marks that are nothing, an outflow, a peak */
+    u64 asked[2];                 /* marks refused with 17 at the row asked, at another */
 } tally;
 
 static void count_records(const struct site *s, const struct result *due)
@@ -70,6 +72,15 @@ void count_edit(const struct edit *e, const struct result *due)
         count_row(e, due);
 }
 
+void count_mark(const struct mark *m, const struct result *due)
+{
+    tally.mark[due->gave]++;
+    if (due->gave == 0)
+        tally.kind[due->answer[BT_KIND]]++;
+    if (due->gave == BT_REFUSED_STANDING)
+        tally.asked[due->answer[BT_PLACE] != m->row]++;
+}
+
 /* ---- In print */
 
 static bool all; /* counts printed so far are above 0 */
@@ -80,19 +91,32 @@ static void print_count(u64 count)
     all = all && count != 0;
 }
 
+/* A count of calls that can end so; a blank for others. */
+static void print_end(u64 count, bool possible)
+{
+    if (possible)
+        print_count(count);
+    else
+        printf(" %8s", "");
+}
+
+static bool ends_mark(int n)
+{
+    return n <= BT_REFUSED_STEP || n == BT_REFUSED_ROW_NUMBERS || n == BT_REFUSED_POND ||
+           n == BT_REFUSED_POND_STORAGE || n >= BT_REFUSED_STANDING;
+}
+
 static void print_ends(void)
 {
-    printf("%-10s %8s %8s\n", "", "studies", "edits");
+    printf("%-10s %8s %8s %8s\n", "", "studies", "edits", "marks");
     for (int n = 0; n <= LAST_REFUSAL; n++) {
         if (n == 0)
             printf("done      ");
         else
             printf("refusal %2d", n);
-        if (n <= BT_REFUSED_FULL)
-            print_count(tally.study[n]);
-        else
-            printf(" %8s", "");
-        print_count(tally.edit[n]);
+        print_end(tally.study[n], n <= BT_REFUSED_FULL);
+        print_end(tally.edit[n], n <= BT_REFUSED_STANDING);
+        print_end(tally.mark[n], ends_mark(n));
         printf("\n");
     }
 }
@@ -122,6 +146,8 @@ bool print_tally(void)
     print_counts("studies of no record, of 1 to 16, of more", tally.records, 3);
     print_counts("of more, refused with 1 to 4, with 5", tally.early, 2);
     print_edits();
+    print_counts("marks: nothing, an outflow, a peak", tally.kind, 3);
+    print_counts("17 of marks at the row asked, at another", tally.asked, 2);
     if (!all)
         printf("something in this table is 0: the cases do not reach it\n");
     return all;

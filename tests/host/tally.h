@@ -6,6 +6,7 @@
 
 void count_study(const struct site *s, const struct result *due);
 void count_edit(const struct edit *e, const struct result *due);
+void count_mark(const struct mark *m, const struct result *due);
 
 /* Prints the counts; gives whether every one of them is above 0. */
 bool print_tally(void);
