@@ -2,6 +2,8 @@
 
 #include <string.h>
 
+#include "plain.h"
+
 void call_open(struct call *c)
 {
     struct lent_list *lists[] = { &c->rain,    &c->subareas, &c->pond,   &c->inflow,  &c->outflow,
@@ -68,6 +70,13 @@ void engine_study_records(struct call *c, const struct site *s)
                                c->outflow.at, c->outflow.len, c->storage.at, c->storage.len, c->answer.at);
 }
 
+void plainly_study(struct call *c, const struct site *s)
+{
+    c->gave = plain_study(s->step, s->first, c->rain.at, c->rain.len, c->subareas.at, c->subareas.len, c->pond.at,
+                          c->pond.len, c->inflow.at, c->inflow.len, c->outflow.at, c->outflow.len, c->storage.at,
+                          c->storage.len, c->answer.at);
+}
+
 void study_due(struct result *r, const struct site *s)
 {
     r->gave = reference_study(s->step, s->first, s->rain.at, s->rain.len, s->subareas.at, s->subareas.len, s->pond.at,
@@ -83,6 +92,14 @@ void engine_edit(struct call *c, const struct edit *e)
                       c->storage.len, e->place, c->fresh.at, c->answer.at, (int64_t *)c->changes.at);
 }
 
+void plainly_edit(struct call *c, const struct edit *e)
+{
+    const struct site *s = &e->site;
+    c->gave = plain_edit(s->step, s->first, c->rain.at, c->rain.len, c->subareas.at, c->subareas.len, c->pond.at,
+                         c->pond.len, c->inflow.at, c->inflow.len, c->outflow.at, c->outflow.len, c->storage.at,
+                         c->storage.len, e->place, c->fresh.at, c->answer.at, (int64_t *)c->changes.at);
+}
+
 void edit_due(struct result *r, const struct edit *e)
 {
     const struct site *s = &e->site;
@@ -96,6 +113,13 @@ void engine_mark(struct call *c, const struct mark *m)
 {
     c->gave = bt_mark(m->site.step, m->site.first, c->pond.at, c->pond.len, c->inflow.at, c->inflow.len, c->outflow.at,
                       c->outflow.len, c->storage.at, c->storage.len, m->row, c->answer.at, (double *)c->values.at);
+}
+
+void plainly_mark(struct call *c, const struct mark *m)
+{
+    c->gave = plain_mark(m->site.step, m->site.first, c->pond.at, c->pond.len, c->inflow.at, c->inflow.len,
+                         c->outflow.at, c->outflow.len, c->storage.at, c->storage.len, m->row, c->answer.at,
+                         (double *)c->values.at);
 }
 
 void mark_due(struct result *r, const struct mark *m)

@@ -1,4 +1,4 @@
-/* One call of the engine between guards, and the same by the reference. */
+/* One call of the engine, or of the plain one, between guards, and the same by the reference. */
 #ifndef CALL_H
 #define CALL_H
 
@@ -27,6 +27,7 @@ void call_open(struct call *c);
 void lend_study(struct call *c, const struct site *s, bool tight);
 void engine_study(struct call *c, const struct site *s);
 void engine_study_records(struct call *c, const struct site *s); /* the list is whole records */
+void plainly_study(struct call *c, const struct site *s);
 void study_due(struct result *r, const struct site *s);
 
 /* What is wrong with a call that was made, or null. */
@@ -36,6 +37,7 @@ const char *study_fault(const struct call *c, const struct site *s, const struct
 
 void lend_edit(struct call *c, const struct edit *e, bool tight);
 void engine_edit(struct call *c, const struct edit *e);
+void plainly_edit(struct call *c, const struct edit *e);
 void edit_due(struct result *r, const struct edit *e);
 
 const char *edit_fault(const struct call *c, const struct edit *e, const struct result *due);
@@ -48,6 +50,7 @@ const char *standing_fault(const struct call *c, const struct edit *e, const u64
 
 void lend_mark(struct call *c, const struct mark *m, bool tight);
 void engine_mark(struct call *c, const struct mark *m);
+void plainly_mark(struct call *c, const struct mark *m);
 void mark_due(struct result *r, const struct mark *m);
 
 const char *mark_fault(const struct call *c, const struct mark *m, const struct result *due);

@@ -7,7 +7,7 @@
  *               (default 6000)
  *   --large N   how many large studies, each with an edit and marks (default 200)
  *   --only N    case N alone, and all of it printed
- *   --bench     times the engine and the reference instead
+ *   --bench     times the engine and the plain one of plain.c instead
  */
 #include <inttypes.h>
 #include <signal.h>
@@ -16,16 +16,17 @@
 #include <string.h>
 #include <unistd.h>
 
+#include "bench.h"
 #include "cases.h"
 #include "edits.h"
 #include "figures.h"
 #include "marks.h"
-#include "measure.h"
 #include "stack.h"
 #include "take.h"
 #include "tally.h"
 
 _Static_assert(BT_ANSWER_LENGTH == 12 && BT_EDIT_ANSWER_LENGTH == 13 && BT_CHANGES_LENGTH == 2, "answers");
+_Static_assert(BT_MARK_ANSWER_LENGTH == 3 && BT_VALUES_LENGTH == 5, "a mark's answer");
 _Static_assert(sizeof(bt_subarea) == BT_WIDTH * sizeof(u64), "a record is 44 numbers");
 _Static_assert(offsetof(bt_subarea, patch_count) == BT_PATCH_COUNT * sizeof(u64), "patch count");
 _Static_assert(offsetof(bt_subarea, patches) == BT_PATCHES * sizeof(u64), "patches");
@@ -33,7 +34,6 @@ _Static_assert(offsetof(bt_subarea, segment_count) == BT_SEGMENT_COUNT * sizeof(
 _Static_assert(offsetof(bt_subarea, segments) == BT_SEGMENTS * sizeof(u64), "segments");
 _Static_assert(sizeof(bt_patch) == BT_PATCH_WIDTH * sizeof(u64) && sizeof(bt_segment) == BT_SEGMENT_WIDTH * sizeof(u64),
                "patches and segments");
-_Static_assert(BT_MARK_ANSWER_LENGTH == 3 && BT_VALUES_LENGTH == 5, "a mark's answer");
 _Static_assert(BT_SEGMENTS + BT_MOST_SEGMENTS * BT_SEGMENT_WIDTH == BT_WIDTH, "a record has 44 numbers");
 
 /* ---- Running cases. Random ones start from the number of their first case. */
@@ -149,7 +149,7 @@ int main(int count, char **words)
     bool bench = read_words(words);
     call_open(&call);
     if (bench) {
-        benchmark(&call, run.seed);
+        benchmark(run.seed);
         return 0;
     }
     int wrong = figures_wrong();

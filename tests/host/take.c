@@ -12,7 +12,7 @@ struct run run = { .seed = 1, .sites = 50000, .chains = 6000, .large = 200 };
 struct call call;
 
 static struct result due;
-static const char *by; /* the entry called last, where there are two */
+static const char *by; /* the entry called last, where there are several */
 
 bool wanted(u64 count)
 {
@@ -58,6 +58,7 @@ static const struct {
 } STUDIES[] = {
     { "", engine_study, false },
     { ", by records", engine_study_records, true },
+    { ", by plain C", plainly_study, false },
 };
 
 static bool whole_records(const struct site *s)
@@ -91,22 +92,37 @@ const struct result *take_study(const char *kind, const struct site *s)
 
 /* ---- Edits */
 
-static void make_edit(const struct edit *e)
+static const struct {
+    const char *by;
+    void (*make)(struct call *, const struct edit *);
+} EDITS[] = {
+    { "", engine_edit },
+    { ", by plain C", plainly_edit },
+};
+
+static const char *try_edit(const struct edit *e, size_t entry)
 {
-    by = "";
+    by = EDITS[entry].by;
     lend_edit(&call, e, tight());
-    engine_edit(&call, e);
+    EDITS[entry].make(&call, e);
+    return edit_fault(&call, e, &due);
+}
+
+/* After the first entry's call, with what it had for a fault. */
+static void settle_edit(const char *kind, const char *fault, const struct edit *e)
+{
     count_edit(e, &due);
+    for (size_t entry = 1; entry < COUNT(EDITS) && !fault; entry++)
+        fault = try_edit(e, entry);
+    if (to_print(kind, fault))
+        print_edit(&call, e, &due, run.only != 0);
 }
 
 const struct result *take_edit(const char *kind, const struct edit *e)
 {
     edit_due(&due, e);
-    if (!next_case())
-        return &due;
-    make_edit(e);
-    if (to_print(kind, edit_fault(&call, e, &due)))
-        print_edit(&call, e, &due, run.only != 0);
+    if (next_case())
+        settle_edit(kind, try_edit(e, 0), e);
     return &due;
 }
 
@@ -119,25 +135,31 @@ const struct result *take_standing(const char *kind, const struct edit *e, const
         return &due;
     altered_site(&altered, e);
     study_due(&anew, &altered);
-    make_edit(e);
-    const char *fault = standing_fault(&call, e, before, &anew), *other = edit_fault(&call, e, &due);
-    if (to_print(kind, fault ? fault : other))
-        print_edit(&call, e, other ? &due : &anew, run.only != 0);
+    const char *other = try_edit(e, 0), *fault = standing_fault(&call, e, before, &anew);
+    settle_edit(kind, fault ? fault : other, e);
     return &due;
 }
 
 /* ---- Marks */
+
+static const char *try_mark(const struct mark *m, const char *name, void (*make)(struct call *, const struct mark *))
+{
+    by = name;
+    lend_mark(&call, m, tight());
+    make(&call, m);
+    return mark_fault(&call, m, &due);
+}
 
 const struct result *take_mark(const char *kind, const struct mark *m)
 {
     mark_due(&due, m);
     if (!next_case())
         return &due;
-    by = "";
-    lend_mark(&call, m, tight());
-    engine_mark(&call, m);
     count_mark(m, &due);
-    if (to_print(kind, mark_fault(&call, m, &due)))
+    const char *fault = try_mark(m, "", engine_mark);
+    if (!fault)
+        fault = try_mark(m, ", by plain C", plainly_mark);
+    if (to_print(kind, fault))
         print_mark(&call, m, &due);
     return &due;
 }
