@@ -187,6 +187,13 @@ uint64_t bt_edit(uint64_t step, uint64_t first, const uint64_t *rain, size_t rai
                  const uint64_t fresh[BT_WIDTH], uint64_t answer[BT_EDIT_ANSWER_LENGTH],
                  int64_t changes[BT_CHANGES_LENGTH]);
 
+/* The same edit of a list of records. The new record is lent as its numbers still. */
+uint64_t bt_edit_records(uint64_t step, uint64_t first, const uint64_t *rain, size_t rain_len, const bt_subarea *list,
+                         size_t list_len, const uint64_t *pond, size_t pond_len, uint64_t *inflow, size_t inflow_len,
+                         uint64_t *outflow, size_t outflow_len, uint64_t *storage, size_t storage_len, uint64_t place,
+                         const uint64_t fresh[BT_WIDTH], uint64_t answer[BT_EDIT_ANSWER_LENGTH],
+                         int64_t changes[BT_CHANGES_LENGTH]);
+
 /*
  * The chart mark of one row, from 1, of the rows that stand in the lists. All rows are looked at for 17, whichever is
  * asked; of inflow only the length is. Nothing but the answer and the values is written.

@@ -63,11 +63,16 @@ void engine_study(struct call *c, const struct site *s)
                        c->storage.len, c->answer.at);
 }
 
+static const bt_subarea *records(const struct call *c)
+{
+    return (const bt_subarea *)c->subareas.at;
+}
+
 void engine_study_records(struct call *c, const struct site *s)
 {
-    c->gave = bt_study_records(s->step, s->first, c->rain.at, c->rain.len, (const bt_subarea *)c->subareas.at,
-                               c->subareas.len / BT_WIDTH, c->pond.at, c->pond.len, c->inflow.at, c->inflow.len,
-                               c->outflow.at, c->outflow.len, c->storage.at, c->storage.len, c->answer.at);
+    c->gave = bt_study_records(s->step, s->first, c->rain.at, c->rain.len, records(c), c->subareas.len / BT_WIDTH,
+                               c->pond.at, c->pond.len, c->inflow.at, c->inflow.len, c->outflow.at, c->outflow.len,
+                               c->storage.at, c->storage.len, c->answer.at);
 }
 
 void plainly_study(struct call *c, const struct site *s)
@@ -90,6 +95,15 @@ void engine_edit(struct call *c, const struct edit *e)
     c->gave = bt_edit(s->step, s->first, c->rain.at, c->rain.len, c->subareas.at, c->subareas.len, c->pond.at,
                       c->pond.len, c->inflow.at, c->inflow.len, c->outflow.at, c->outflow.len, c->storage.at,
                       c->storage.len, e->place, c->fresh.at, c->answer.at, (int64_t *)c->changes.at);
+}
+
+void engine_edit_records(struct call *c, const struct edit *e)
+{
+    const struct site *s = &e->site;
+    c->gave = bt_edit_records(s->step, s->first, c->rain.at, c->rain.len, records(c), c->subareas.len / BT_WIDTH,
+                              c->pond.at, c->pond.len, c->inflow.at, c->inflow.len, c->outflow.at, c->outflow.len,
+                              c->storage.at, c->storage.len, e->place, c->fresh.at, c->answer.at,
+                              (int64_t *)c->changes.at);
 }
 
 void plainly_edit(struct call *c, const struct edit *e)

@@ -37,6 +37,7 @@ const char *study_fault(const struct call *c, const struct site *s, const struct
 
 void lend_edit(struct call *c, const struct edit *e, bool tight);
 void engine_edit(struct call *c, const struct edit *e);
+void engine_edit_records(struct call *c, const struct edit *e); /* the list is whole records */
 void plainly_edit(struct call *c, const struct edit *e);
 void edit_due(struct result *r, const struct edit *e);
 

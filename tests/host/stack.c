@@ -19,8 +19,7 @@ static const u64 PAINT = 0x0ddba11c0ffee000u;
 
 struct painted {
     char *base;
-    void (*make)(void *);
-    void *given;
+    void (*make)(void);
     size_t used;
 };
 
@@ -32,7 +31,7 @@ static void *call_on_paint(void *given)
     volatile u64 *end = (u64 *)(void *)(p->base + (size_t)(frame - UNSEEN - p->base) / 8 * 8);
     for (volatile u64 *w = low; w < end; w++)
         *w = PAINT;
-    p->make(p->given);
+    p->make();
     while (low < end && *low == PAINT)
         low++;
     p->used = (size_t)(frame - (char *)(uintptr_t)low);
@@ -47,10 +46,10 @@ static void fail_if(int error, const char *what)
     exit(2);
 }
 
-static size_t stack_of(void (*make)(void *), void *given)
+static size_t stack_of(void (*make)(void))
 {
     char *base = mmap(NULL, STACK_BYTES, PROT_READ | PROT_WRITE, MAP_PRIVATE | MAP_ANONYMOUS, -1, 0);
-    struct painted p = { base, make, given, 0 };
+    struct painted p = { base, make, 0 };
     pthread_attr_t how;
     pthread_t thread;
     fail_if(base == MAP_FAILED, "memory for a stack");
@@ -65,52 +64,80 @@ static size_t stack_of(void (*make)(void *), void *given)
 
 /* ---- The calls */
 
-static void make_study(void *given)
+static struct edit edit;
+static struct mark mark;
+
+static void lend_for_study(void)
 {
-    struct edit *e = given;
-    engine_study(&call, &e->site);
+    lend_study(&call, &edit.site, false);
 }
 
-static void make_edit(void *given)
+static void lend_for_edit(void)
 {
-    engine_edit(&call, given);
+    lend_edit(&call, &edit, false);
 }
 
-static void make_mark(void *given)
+static void lend_for_mark(void)
 {
-    engine_mark(&call, given);
+    lend_mark(&call, &mark, false);
 }
 
-static void print_most(const char *what, size_t most)
+static void make_study(void)
 {
-    printf("stack: %s takes %zu bytes%s\n", what, most, most > UNSEEN ? "" : " or less");
+    engine_study(&call, &edit.site);
 }
 
-static void keep_most(size_t *most, size_t used)
+static void make_study_records(void)
 {
-    *most = used > *most ? used : *most;
+    engine_study_records(&call, &edit.site);
+}
+
+static void make_edit(void)
+{
+    engine_edit(&call, &edit);
+}
+
+static void make_edit_records(void)
+{
+    engine_edit_records(&call, &edit);
+}
+
+static void make_mark(void)
+{
+    engine_mark(&call, &mark);
+}
+
+/* Large sites and likely ones in turn. */
+static void make_inputs(u64 seed, u64 number)
+{
+    struct prng r = prng_of(seed, number);
+    edit = (struct edit){ .place = 1 };
+    (number % 2 == 0 ? likely_site : large_site)(&edit.site, &r);
+    stand(&edit);
+    fitting_record(&edit.site, edit.fresh, &r, BT_MOST_PATCHES);
+    mark = (struct mark){ edit.site, edit.found, 1 };
 }
 
 void print_stack(u64 seed)
 {
-    static struct edit e;
-    static struct mark m;
-    size_t study = 0, edit = 0, mark = 0;
-    for (u64 i = 1; i <= 8; i++) {
-        struct prng r = prng_of(seed, i);
-        e = (struct edit){ .place = 1 };
-        (i % 2 == 0 ? likely_site : large_site)(&e.site, &r);
-        lend_study(&call, &e.site, false);
-        keep_most(&study, stack_of(make_study, &e));
-        stand(&e);
-        fitting_record(&e.site, e.fresh, &r, BT_MOST_PATCHES);
-        lend_edit(&call, &e, false);
-        keep_most(&edit, stack_of(make_edit, &e));
-        m = (struct mark){ e.site, e.found, 1 };
-        lend_mark(&call, &m, false);
-        keep_most(&mark, stack_of(make_mark, &m));
+    static const struct {
+        const char *what;
+        void (*lend)(void), (*make)(void);
+    } calls[] = {
+        { "a study", lend_for_study, make_study },
+        { "a study of records", lend_for_study, make_study_records },
+        { "an edit", lend_for_edit, make_edit },
+        { "an edit of records", lend_for_edit, make_edit_records },
+        { "a mark", lend_for_mark, make_mark },
+    };
+    for (size_t c = 0; c < sizeof calls / sizeof *calls; c++) {
+        size_t most = 0;
+        for (u64 number = 1; number <= 8; number++) {
+            make_inputs(seed, number);
+            calls[c].lend();
+            size_t used = stack_of(calls[c].make);
+            most = used > most ? used : most;
+        }
+        printf("stack: %s takes %zu bytes%s\n", calls[c].what, most, most > UNSEEN ? "" : " or less");
     }
-    print_most("a study", study);
-    print_most("an edit", edit);
-    print_most("a mark", mark);
 }

@@ -95,13 +95,17 @@ const struct result *take_study(const char *kind, const struct site *s)
 static const struct {
     const char *by;
     void (*make)(struct call *, const struct edit *);
+    bool records;
 } EDITS[] = {
-    { "", engine_edit },
-    { ", by plain C", plainly_edit },
+    { "", engine_edit, false },
+    { ", by records", engine_edit_records, true },
+    { ", by plain C", plainly_edit, false },
 };
 
 static const char *try_edit(const struct edit *e, size_t entry)
 {
+    if (EDITS[entry].records && !whole_records(&e->site))
+        return NULL;
     by = EDITS[entry].by;
     lend_edit(&call, e, tight());
     EDITS[entry].make(&call, e);

@@ -1,7 +1,7 @@
 /*
- * Takes cases: each makes a call, works the same by the reference, compares the two, and is counted. A study of whole
- * records is called twice: with the flat list, and with the list of records, which is held to the same. So is the plain
- * engine of the benchmark.
+ * Takes cases: each makes a call, works the same by the reference, compares the two, and is counted. A study or an edit
+ * of whole records is called twice: with the flat list, and with the list of records, which is held to the same. So is
+ * the plain engine of the benchmark.
  */
 #ifndef TAKE_H
 #define TAKE_H
