@@ -1,4 +1,5 @@
 pub mod Stores
+pub mod Fields
 pub mod Handing
 pub mod Refused
 pub mod StudyPromise

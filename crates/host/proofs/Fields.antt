@@ -1,0 +1,65 @@
+-- The engine reads a record's counts, patches and segments where `recordOf` puts them. Assumes nothing.
+use mathlib.Core.Path.{_≡_, refl, sym, ap, _∙_}
+use mathlib.Core.Logic.{⊎-elim}
+use Prim.Native.Nat.{ℕ, zero, suc, _*_, _≤_}
+use native.Mathlib.Nat.{le-antisymm}
+use native.Mathlib.Omega.{arith}
+use mathlib.Core.List.{List, _∷_, _++_}
+use lib.ListN.{length, getD, take, drop}
+use lib.Seq.{take-nil, take-all, take-append-le, drop-drop, drop-at, getD-at}
+use Rattle.laws.proofs.Num.{below-or-not}
+use Rattle.study.specs.Records.{patchCount, patches, segmentCount, segments}
+use Rattle.host.specs.declared.records.Patch.{Patch}
+use Rattle.host.specs.declared.records.Segment.{Segment}
+use Rattle.host.specs.declared.records.Subarea.{Subarea}
+use Rattle.host.specs.Flattened.{noPatch, noSegment, patchNumbers, segmentNumbers, patchesTo, segmentsTo, recordOf}
+use Rattle.host.proofs.Stores.{patches-length, segments-length}
+
+-- the first k of n
+patches-first : (k n : ℕ) (ps : List Patch) → k ≤ n → take (3 * k) (patchesTo n ps) ≡ patchesTo k ps
+unfolding patchesTo
+patches-first k zero ps h = let e : 0 ≡ k = omega (arith, h) in take-nil (3 * k) ∙ ap (λ (j : ℕ). patchesTo j ps) e
+patches-first k (suc n) ps h =
+    ⊎-elim
+    (λ l. take-append-le (3 * k) (patchesTo n ps) (patchNumbers (getD ps n noPatch)) (omega (arith, l, patches-length n ps)) ∙ patches-first k n ps (omega (arith, l)))
+    (λ l. take-all (3 * k) (patchesTo (suc n) ps) (omega (arith, l, patches-length (suc n) ps)) ∙ ap (λ (j : ℕ). patchesTo j ps) (le-antisymm l h))
+    (below-or-not k (suc n))
+
+segments-first : (k n : ℕ) (gs : List Segment) → k ≤ n → take (3 * k) (segmentsTo n gs) ≡ segmentsTo k gs
+unfolding segmentsTo
+segments-first k zero gs h = let e : 0 ≡ k = omega (arith, h) in take-nil (3 * k) ∙ ap (λ (j : ℕ). segmentsTo j gs) e
+segments-first k (suc n) gs h =
+    ⊎-elim
+    (λ l. take-append-le (3 * k) (segmentsTo n gs) (segmentNumbers (getD gs n noSegment)) (omega (arith, l, segments-length n gs)) ∙ segments-first k n gs (omega (arith, l)))
+    (λ l. take-all (3 * k) (segmentsTo (suc n) gs) (omega (arith, l, segments-length (suc n) gs)) ∙ ap (λ (j : ℕ). segmentsTo j gs) (le-antisymm l h))
+    (below-or-not k (suc n))
+
+module _ (s : Subarea) where
+  abbrev front : List ℕ
+  front = s .«patch_count» ∷ patchesTo 8 (s .patches)
+
+  front-length : length front ≡ 25
+  front-length = ap suc (patches-length 8 (s .patches))
+
+  pub patch-count-read : patchCount (recordOf s) ≡ s .«patch_count»
+  unfolding recordOf
+  patch-count-read = refl
+
+  pub segment-count-read : segmentCount (recordOf s) ≡ s .«segment_count»
+  unfolding recordOf
+  segment-count-read = getD-at front (s .«segment_count») (segmentsTo 6 (s .segments)) 0 25 front-length
+
+  -- the patches and the segments within the counts
+  pub patches-read : s .«patch_count» ≤ 8 → patches (recordOf s) ≡ patchesTo (s .«patch_count») (s .patches)
+  unfolding recordOf
+  patches-read h =
+      take-append-le (3 * s .«patch_count») (patchesTo 8 (s .patches)) (s .«segment_count» ∷ segmentsTo 6 (s .segments)) (omega (arith, h, patches-length 8 (s .patches)))
+      ∙ patches-first (s .«patch_count») 8 (s .patches) h
+
+  pub segments-read : s .«segment_count» ≤ 6 → segments (recordOf s) ≡ segmentsTo (s .«segment_count») (s .segments)
+  unfolding recordOf
+  segments-read h =
+      ap (λ (n : ℕ). take (3 * n) (drop 26 (front ++ (s .«segment_count» ∷ segmentsTo 6 (s .segments))))) segment-count-read
+      ∙ ap (λ (l : List ℕ). take (3 * s .«segment_count») l)
+      (sym (drop-drop 1 25 (front ++ (s .«segment_count» ∷ segmentsTo 6 (s .segments)))) ∙ ap (drop 1) (drop-at front (s .«segment_count» ∷ segmentsTo 6 (s .segments)) 25 front-length))
+      ∙ segments-first (s .«segment_count») 6 (s .segments) h
