@@ -1,5 +1,5 @@
 -- Where the checks before 16 refuse an edit, and where they leave it to the rows. Assumes nothing.
-use mathlib.Core.Path.{_≡_}
+use mathlib.Core.Path.{_≡_, _∙_}
 use mathlib.Core.List.{List}
 use Prim.Native.Nat.{ℕ, _/_}
 use borrow.Author.Tests.{ne-eqb}
@@ -8,6 +8,7 @@ use Rattle.study.specs.declared.Setup.{Setup}
 use Rattle.study.specs.declared.Refusal.{Refusal}
 use Rattle.study.specs.Study.{after}
 use Rattle.study.proofs.Orders.{or-first, or-second}
+use Rattle.edit.specs.declared.EditAnswer.{EditAnswer}
 use Rattle.edit.specs.declared.EditAnswer.the-variants.{Refused}
 use Rattle.edit.specs.Altering.{newInflow, firstChanged, outflowsFrom, storagesFrom}
 use Rattle.edit.specs.Refusals.{listsRefusal, rowsRefusal, editRefusal}
@@ -49,18 +50,18 @@ module _ (g : Setup) (rain s p vs os ss : List ℕ) (k : ℕ) (r : List ℕ) whe
   unfolding editRefusal
   past e = or-second lists rows e
 
-  pub past-answer : lists .number ≡ 0 → worked (g .step) rain s p vs os ss k r ≡ editAnswer g rain s p vs os ss k r
+  pub past-answer : lists .number ≡ 0 → (x : EditAnswer) → x ≡ worked (g .step) rain s p vs os ss k r → x ≡ editAnswer g rain s p vs os ss k r
   unfolding editAnswer worked
-  past-answer e = rw (past e)
+  past-answer e x q = q ∙ rw (past e)
 
-  pub past-inflow : lists .number ≡ 0 → after rows ws vs ≡ inflowAfter g rain s p vs os ss k r
+  pub past-inflow : lists .number ≡ 0 → (x : List ℕ) → x ≡ after rows ws vs → x ≡ inflowAfter g rain s p vs os ss k r
   unfolding inflowAfter
-  past-inflow e = rw (past e)
+  past-inflow e x q = q ∙ rw (past e)
 
-  pub past-outflow : lists .number ≡ 0 → after rows (outflowsFrom (g .step / 2) p os ss ws (firstChanged vs ws)) os ≡ outflowAfter g rain s p vs os ss k r
+  pub past-outflow : lists .number ≡ 0 → (x : List ℕ) → x ≡ after rows (outflowsFrom (g .step / 2) p os ss ws (firstChanged vs ws)) os → x ≡ outflowAfter g rain s p vs os ss k r
   unfolding outflowAfter
-  past-outflow e = rw (past e)
+  past-outflow e x q = q ∙ rw (past e)
 
-  pub past-storage : lists .number ≡ 0 → after rows (storagesFrom (g .step / 2) p os ss ws (firstChanged vs ws)) ss ≡ storageAfter g rain s p vs os ss k r
+  pub past-storage : lists .number ≡ 0 → (x : List ℕ) → x ≡ after rows (storagesFrom (g .step / 2) p os ss ws (firstChanged vs ws)) ss → x ≡ storageAfter g rain s p vs os ss k r
   unfolding storageAfter
-  past-storage e = rw (past e)
+  past-storage e x q = q ∙ rw (past e)

@@ -8,6 +8,7 @@ use lib.ListN.{length}
 use Rattle.laws.specs.Scan.{scan}
 use Rattle.laws.proofs.Scans.{scan-most}
 use Rattle.laws.proofs.Sums.{sum-term}
+use Rattle.curve.specs.declared.Classes.{Classes}
 use Rattle.hydrograph.specs.InflowRows.{mostArea}
 use Rattle.rows.specs.Standing.{at, standsGood, firstForged}
 use Rattle.rows.proofs.Told.{rows-ok}
@@ -16,7 +17,8 @@ use Rattle.study.specs.Records.{count, recordAt, areaOf}
 use Rattle.study.specs.Refusals.{orElse, firstOf}
 use Rattle.study.specs.Study.{partOf, rowsFrom, classesAll, after, RecordOk}
 use Rattle.study.proofs.Orders.{or-none, or-front, or-past, first-none}
-use Rattle.edit.specs.declared.EditAnswer.the-variants.{Refused, Done}
+use Rattle.edit.specs.declared.EditAnswer.{EditAnswer}
+use Rattle.edit.specs.declared.EditAnswer.the-variants.{Refused}
 use Rattle.edit.specs.Altering.{altered, oldRecord, newInflow, firstChanged}
 use Rattle.edit.specs.Refusals.{inflowFits, firstUnfit, overFrom, rowsRefusal}
 use Rattle.edit.specs.Edit.{settledFrom, worked, EditOk, RowsFit, PartsOk, GroundOk}
@@ -56,12 +58,14 @@ module _ (D : ℕ) (rain s p vs os ss : List ℕ) (k : ℕ) (r : List ℕ) where
   unfolding rowsRefusal
   past e = sym (or-past sixteen seventeen (overFrom (D / 2) p os ss ws (firstChanged vs ws)) e)
 
-  pub past-answer : first .number ≡ 0 → settledFrom (D / 2) (classesAll (altered s k r)) p vs os ss ws ≡ worked D rain s p vs os ss k r
+  -- so it is what was settled, of class areas and new rows that are those of the altered list
+  pub past-answer : first .number ≡ 0 → (c : Classes) → c ≡ classesAll (altered s k r) → (new : List ℕ) → new ≡ ws → (x : EditAnswer) → x ≡ settledFrom (D / 2) c p vs os ss new → x ≡ worked D rain s p vs os ss k r
   unfolding worked settledFrom
-  past-answer e = rw (past e)
+  past-answer e c ce new ne x q = (rw (ce, ne) at q) ∙ rw (past e)
 
-  pub past-after : first .number ≡ 0 → (new old : List ℕ) → after (overFrom (D / 2) p os ss ws (firstChanged vs ws)) new old ≡ after (rowsRefusal D rain s p vs os ss k r) new old
-  past-after e new old = rw (past e)
+  pub past-after : first .number ≡ 0 → (new : List ℕ) → new ≡ ws → (column : List ℕ → List ℕ) (old x : List ℕ) → x ≡ after (overFrom (D / 2) p os ss new (firstChanged vs new)) (column new) old
+      → x ≡ after (rowsRefusal D rain s p vs os ss k r) (column ws) old
+  past-after e new ne column old x q = (rw ne at q) ∙ rw (past e)
 
   module _ (ok : EditOk D rain s p (length vs) (length os) (length ss) k r) where
     here : k - 1 < count s

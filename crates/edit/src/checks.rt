@@ -128,7 +128,8 @@ fn first_unfit(parts: &[u64], inflow: &[u64]) -> usize
 {
     let mut i = 0;
     while i < inflow.len() {
-        if !laws::both(parts[i] <= inflow[i], inflow[i] <= MOST_INFLOW) {
+        let own = inflow[i];
+        if !laws::both(parts[i] <= own, own <= MOST_INFLOW) {
             return i;
         }
         i += 1;

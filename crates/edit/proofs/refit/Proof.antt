@@ -6,20 +6,18 @@ use native.Mathlib.Omega.{arith}
 use borrow.Author.Needs.{needs}
 use lib.ListN.{length}
 use Rattle.laws.specs.Scan.{scan}
-use Rattle.curve.specs.declared.Classes.{Classes}
 use Rattle.rows.specs.Standing.{at}
 use Rattle.study.specs.declared.Refusal.{Refusal}
-use Rattle.study.specs.Records.{width, areaOf}
+use Rattle.study.specs.Records.{width}
 use Rattle.study.specs.Refusals.{orElse, firstOf}
-use Rattle.study.specs.Study.{partOf, rowsFrom, classesAll, after, RecordOk}
+use Rattle.study.specs.Study.{partOf, rowsFrom}
 use Rattle.study.proofs.Subareas.{part-is}
 use Rattle.study.proofs.Inflows.{rows-length}
-use Rattle.edit.specs.declared.EditAnswer.the-variants.{Refused, Done}
-use Rattle.edit.specs.Altering.{altered, oldRecord, swapped, newInflow, firstChanged, outflowsFrom, storagesFrom}
-use Rattle.edit.specs.Refusals.{inflowFits, overFrom}
-use Rattle.edit.specs.Edit.{settledFrom}
+use Rattle.edit.specs.declared.EditAnswer.the-variants.{Refused}
+use Rattle.edit.specs.Altering.{oldRecord, swapped, newInflow, firstChanged, outflowsFrom, storagesFrom}
+use Rattle.edit.specs.Refusals.{inflowFits}
 use Rattle.edit.proofs.Swapping.{swapped-length, unfit-same, swap-is}
-use Rattle.edit.proofs.Working.{first, sixteen, seventeen, stop-answer, stop-old, past-answer, past-after, old-ok, ground-ok, parts-ok, rows-fit}
+use Rattle.edit.proofs.Working.{first, seventeen, stop-answer, stop-old, past-answer, past-after, old-ok, ground-ok, parts-ok, rows-fit}
 use Rattle.edit.proofs.refit.Statement.{statement}
 use Rattle.edit.proofs.refit.Tie as tie
 
@@ -145,16 +143,14 @@ returns c =
     let r = a .fresh .now in
     let e = clear (E w) in
     let h = D / 2 in
-    let is = new w in (
-      t .settle .ensures .0
-          ∙ ap (λ (z : Classes). settledFrom h z p vs os ss (w .swap-parts .last .1 .1 .1 .1 .0)) (l .altered-classes .ensures)
-          ∙ ap (settledFrom h (classesAll (altered s (a .place) r)) p vs os ss) is
-          ∙ past-answer D rain s p vs os ss (a .place) r e,
+    let is = new w in
+    let f = t .settle .ensures in (
+      past-answer D rain s p vs os ss (a .place) r e _ (l .altered-classes .ensures) _ is _ (f .0),
       (
-        t .settle .ensures .1 .0 ∙ ap (λ (z : List ℕ). after (overFrom h p os ss z (firstChanged vs z)) z vs) is ∙ past-after D rain s p vs os ss (a .place) r e _ _,
+        past-after D rain s p vs os ss (a .place) r e _ is (λ z. z) vs _ (f .1 .0),
         (
-          t .settle .ensures .1 .1 .0 ∙ ap (λ (z : List ℕ). after (overFrom h p os ss z (firstChanged vs z)) (outflowsFrom h p os ss z (firstChanged vs z)) os) is ∙ past-after D rain s p vs os ss (a .place) r e _ _,
-          t .settle .ensures .1 .1 .1 ∙ ap (λ (z : List ℕ). after (overFrom h p os ss z (firstChanged vs z)) (storagesFrom h p os ss z (firstChanged vs z)) ss) is ∙ past-after D rain s p vs os ss (a .place) r e _ _,
+          past-after D rain s p vs os ss (a .place) r e _ is (λ z. outflowsFrom h p os ss z (firstChanged vs z)) os _ (f .1 .1 .0),
+          past-after D rain s p vs os ss (a .place) r e _ is (λ z. storagesFrom h p os ss z (firstChanged vs z)) ss _ (f .1 .1 .1),
         ),
       ),
     )

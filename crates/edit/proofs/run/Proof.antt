@@ -52,12 +52,12 @@ returns c =
     let a = S (e .before .before) .args in
     let f = d .work .ensures in
     let q = clear e in (
-      f .0 ∙ past-answer (a .setup) (a .rain .now) (a .subareas .now) (a .pond .now) (a .inflow .now) (a .outflow .now) (a .storage .now) (a .place) (a .fresh .now) q,
+      past-answer (a .setup) (a .rain .now) (a .subareas .now) (a .pond .now) (a .inflow .now) (a .outflow .now) (a .storage .now) (a .place) (a .fresh .now) q _ (f .0),
       (
-        f .1 .0 ∙ past-inflow (a .setup) (a .rain .now) (a .subareas .now) (a .pond .now) (a .inflow .now) (a .outflow .now) (a .storage .now) (a .place) (a .fresh .now) q,
+        past-inflow (a .setup) (a .rain .now) (a .subareas .now) (a .pond .now) (a .inflow .now) (a .outflow .now) (a .storage .now) (a .place) (a .fresh .now) q _ (f .1 .0),
         (
-          f .1 .1 .0 ∙ past-outflow (a .setup) (a .rain .now) (a .subareas .now) (a .pond .now) (a .inflow .now) (a .outflow .now) (a .storage .now) (a .place) (a .fresh .now) q,
-          f .1 .1 .1 ∙ past-storage (a .setup) (a .rain .now) (a .subareas .now) (a .pond .now) (a .inflow .now) (a .outflow .now) (a .storage .now) (a .place) (a .fresh .now) q,
+          past-outflow (a .setup) (a .rain .now) (a .subareas .now) (a .pond .now) (a .inflow .now) (a .outflow .now) (a .storage .now) (a .place) (a .fresh .now) q _ (f .1 .1 .0),
+          past-storage (a .setup) (a .rain .now) (a .subareas .now) (a .pond .now) (a .inflow .now) (a .outflow .now) (a .storage .now) (a .place) (a .fresh .now) q _ (f .1 .1 .1),
         ),
       ),
     )

@@ -47,9 +47,9 @@ over-is g =
     let s = S g in
     told g ∙ ap (λ (z : ℕ). overRow (s .args .half) (s .args .pond .now) (stateBefore (s .args .outflow .now) (s .args .storage .now) z) (drop z (s .args .new .now))) (g .before .before .before .first-changed .ensures)
 
-add : tie.Need-add-t18
-add c =
-    let g = c .before .before .before in
+-- and stands in the lists
+placed : (g : tie.After-dry-tail) → A g + g .dry-tail .result .over ≤ 4000
+placed g =
     let s = S g in
     let fit = s .pre in
     let st = stateBefore (s .args .outflow .now) (s .args .storage .now) (A g) in
@@ -110,4 +110,4 @@ under c =
 pub settle-spec : {M : Type 1} → statement M
 settle-spec =
     tie.close
-    (tie.spec (λ c κs. search needs) dry-requires add (λ c. search needs) (λ c. search needs) (λ c. search needs) over finish-requires (λ c. search needs) (λ c. search needs) (λ c. search needs) under)
+    (tie.spec (λ c κs. search needs) dry-requires (λ c. omega (arith, placed (c .before .before .before))) (λ c. search needs) (λ c. search needs) (λ c. search needs) over finish-requires (λ c. search needs) (λ c. search needs) (λ c. search needs) under)

@@ -19,15 +19,15 @@ abbrev μ-loop : tie.MeasureT-loop
 
 stop : tie.Need-returns Inv-loop μ-loop
 unfolding inflowFits
-stop c = scan-stop _ _ (c .before .before .before .before .before .before .loop .inv) (omega arith) (sym (c .before .both .ensures) ∙ not-true _ (c .if1 .taken))
+stop c = scan-stop _ _ (c .before .before .before .before .before .loop .inv) (omega arith) (sym (c .before .both .ensures) ∙ not-true _ (c .if1 .taken))
 
 again : tie.Need-loop-again Inv-loop μ-loop
 unfolding inflowFits
-again c = scan-go _ _ (c .before .before .before .before .before .before .loop .inv) (omega arith) (sym (c .before .both .ensures) ∙ not-false _ (c .if1 .left))
+again c = scan-go _ _ (c .before .before .before .before .before .loop .inv) (omega arith) (sym (c .before .both .ensures) ∙ not-false _ (c .if1 .left))
 
 done : tie.Need-returns-2 Inv-loop μ-loop
 done c = scan-done _ _ (c .before .loop .inv) (omega arith)
 
 pub first-unfit-spec : {M : Type 1} → statement M
 first-unfit-spec =
-    tie.close (tie.spec Inv-loop μ-loop (λ c. scan-start _ _) (λ c. search needs) (λ c. search needs) (λ c. search needs) (λ c. search needs) (λ c. search needs) (λ c. search needs) (λ c κs. search needs) stop (λ c. search needs) (λ c. search needs) again done)
+    tie.close (tie.spec Inv-loop μ-loop (λ c. scan-start _ _) (λ c. search needs) (λ c. search needs) (λ c. search needs) (λ c. search needs) (λ c κs. search needs) stop (λ c. search needs) (λ c. search needs) again done)
