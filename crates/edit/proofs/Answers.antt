@@ -7,4 +7,4 @@ use Rattle.edit.proofs.run.Kinds as run-kinds
 use Rattle.edit.proofs.run.Reads as run-reads
 
 pub run-one : OneAnswerAnd run-kinds.ps run-kinds.r {L = List ℕ × (List ℕ × List ℕ)} (λ κs s. (now (s .1 .1 .1 .1 .0), (now (s .1 .1 .1 .1 .1 .0), now (s .1 .1 .1 .1 .1 .1 .0)))) run-reads.Post
-run-one κs a x y s t p q = (same (p .0) (q .0), λ i. (same (p .1 .0) (q .1 .0) i, (same (p .1 .1 .0) (q .1 .1 .0) i, same (p .1 .1 .1) (q .1 .1 .1) i)))
+run-one κs a x y s t p q = (same (p .0) (q .0), λ i. (same (p .1 .0) (q .1 .0) i, (same (p .1 .1 .0) (q .1 .1 .0) i, same (p .1 .1 .1 .0) (q .1 .1 .1 .0) i)))

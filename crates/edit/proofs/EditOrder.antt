@@ -1,4 +1,4 @@
--- The refusals of an edit come in document 01's order: edit-order; and an answer's number and place are the first one's. Assumes nothing.
+-- The refusals of an edit come in document 01's order: edit-order; an answer's number and place are the first one's, and its values follow from it. Assumes nothing.
 use mathlib.Core.Path.{_≡_, refl, sym, ap, _∙_}
 use mathlib.Core.Bool.{Bool, true, false}
 use mathlib.Core.List.{List, [], _∷_}
@@ -17,13 +17,14 @@ use Rattle.study.specs.Records.{count}
 use Rattle.study.specs.declared.Setup.{Setup}
 use Rattle.study.specs.declared.Refusal.{Refusal}
 use Rattle.study.specs.Refusals.{refuse, none, orElse, unless, firstOf, lengthsGood, stepGood, rainCheck, lastGood, recordsGood, runChecks, firstPatches, firstSegments, firstTiming, allArea, timingChecks, listChecks, pondChecks}
-use Rattle.study.specs.Study.{partOf, classesAll}
+use Rattle.study.specs.Study.{partOf, classesAll, passes}
 use Rattle.study.proofs.Orders.{or-none, or-second}
 use Rattle.study.proofs.Order.{firstRefusal, or-assoc, after-three, after-five, after-six, pond-split}
+use Rattle.edit.specs.declared.EditAnswer.{EditAnswer}
 use Rattle.edit.specs.declared.EditAnswer.the-variants.{Refused, Done}
 use Rattle.edit.specs.Altering.{altered, oldRecord, newInflow, firstChanged}
 use Rattle.edit.specs.Refusals.{placeGood, firstUnfit, overFrom, listsRefusal, rowsRefusal, editRefusal}
-use Rattle.edit.specs.Edit.{editedOf, editAnswer, editRefusalIn}
+use Rattle.edit.specs.Edit.{editedOf, editAnswer, editRefusalIn, editValuesIn, editNothing, editValues}
 
 -- 6 to 11 on a list, line by line, before what follows
 abbrev lines : ℕ → List ℕ → List Refusal → List Refusal
@@ -147,3 +148,16 @@ module _ (g : Setup) (rain s p vs os ss : List ℕ) (k : ℕ) (r : List ℕ) whe
           → editRefusalIn (pick b (Done (editedOf (D / 2) (classesAll (altered s k r)) p vs os ss ws)) (Refused (editRefusal g rain s p vs os ss k r))) ≡ editRefusal g rain s p vs os ss k r
       go true e = none-refused (eqb-true (editRefusal g rain s p vs os ss k r .number) 0 e)
       go false e = refl
+
+  -- and its values are those, 0 when refused
+  pub edit-values : editValuesIn (editAnswer g rain s p vs os ss k r) ≡ editValues g rain s p vs os ss k r
+  unfolding editAnswer editValues
+  edit-values = go (passes (editRefusal g rain s p vs os ss k r))
+    where
+      go : (b : Bool) → editValuesIn (pick b (Done (editedOf (D / 2) (classesAll (altered s k r)) p vs os ss ws)) (Refused (editRefusal g rain s p vs os ss k r))) ≡ pick b (editedOf (D / 2) (classesAll (altered s k r)) p vs os ss ws) editNothing
+      go true = refl
+      go false = refl
+
+  -- so an answer that is this one has this number and place, and these values
+  pub answer-is : (x : EditAnswer) → x ≡ editAnswer g rain s p vs os ss k r → (editRefusalIn x ≡ editRefusal g rain s p vs os ss k r) × (editValuesIn x ≡ editValues g rain s p vs os ss k r)
+  answer-is x q = (ap editRefusalIn q ∙ edit-refusal, ap editValuesIn q ∙ edit-values)

@@ -97,6 +97,11 @@ abbrev pub editValuesIn : EditAnswer → Edited
 editValuesIn (Refused v) = editNothing
 editValuesIn (Done e) = e
 
+-- the values of an edit's answer
+unfoldable pub editValues : Setup → List ℕ → List ℕ → List ℕ → List ℕ → List ℕ → List ℕ → ℕ → List ℕ → Edited
+editValues g rain s p vs os ss k r =
+    pick (passes (editRefusal g rain s p vs os ss k r)) (editedOf (g .step / 2) (classesAll (altered s k r)) p vs os ss (newInflow (g .step) rain s k r vs)) editNothing
+
 -- what is left of the answer after the checks before 16, and after 17
 unfoldable pub worked : ℕ → List ℕ → List ℕ → List ℕ → List ℕ → List ℕ → List ℕ → ℕ → List ℕ → EditAnswer
 worked D rain s p vs os ss k r =

@@ -18,8 +18,8 @@ ghost use Rattle.rows.specs.Routing.{passed, dryOf, stateBefore, InflowOk};
 ghost use Rattle.rows.specs.Standing.{RowsOk};
 ghost use Rattle.study.specs.Study.{after};
 ghost use Rattle.edit.specs.Altering.{altered, newInflow, firstChanged, changedAt, outflowsFrom, storagesFrom};
-ghost use Rattle.edit.specs.Refusals.{overFrom, rowsRefusal};
-ghost use Rattle.edit.specs.Edit.{change, told, editedOf, settledFrom, worked, editAnswer, inflowAfter, outflowAfter, storageAfter, EditOk, RowsFit, SmallOk};
+ghost use Rattle.edit.specs.Refusals.{overFrom, rowsRefusal, editRefusal};
+ghost use Rattle.edit.specs.Edit.{change, told, editedOf, settledFrom, worked, editAnswer, inflowAfter, outflowAfter, storageAfter, editRefusalIn, editValuesIn, editValues, EditOk, RowsFit, SmallOk};
 
 // The figures over the rows then standing, the first changed row (from 1; 0 if none), and the changes of peak outflow and
 // of total released, new less old.
@@ -220,6 +220,7 @@ pub fn run(
     ensures { λ _. ⌜ now (inflow .exit) ≡ inflowAfter setup (now (rain .entry)) (now (subareas .entry)) (now (pond .entry)) (now (inflow .entry)) (now (outflow .entry)) (now (storage .entry)) place (now (fresh .entry)) ⌝ }
     ensures { λ _. ⌜ now (outflow .exit) ≡ outflowAfter setup (now (rain .entry)) (now (subareas .entry)) (now (pond .entry)) (now (inflow .entry)) (now (outflow .entry)) (now (storage .entry)) place (now (fresh .entry)) ⌝ }
     ensures { λ _. ⌜ now (storage .exit) ≡ storageAfter setup (now (rain .entry)) (now (subareas .entry)) (now (pond .entry)) (now (inflow .entry)) (now (outflow .entry)) (now (storage .entry)) place (now (fresh .entry)) ⌝ }
+    ensures { λ r. ⌜ (editRefusalIn r ≡ editRefusal setup (now (rain .entry)) (now (subareas .entry)) (now (pond .entry)) (now (inflow .entry)) (now (outflow .entry)) (now (storage .entry)) place (now (fresh .entry))) × (editValuesIn r ≡ editValues setup (now (rain .entry)) (now (subareas .entry)) (now (pond .entry)) (now (inflow .entry)) (now (outflow .entry)) (now (storage .entry)) place (now (fresh .entry))) ⌝ }
 {
     let v = checks::lists_checks(
         setup,

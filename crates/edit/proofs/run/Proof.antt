@@ -8,6 +8,7 @@ use Rattle.study.specs.Records.{width}
 use Rattle.edit.specs.declared.EditAnswer.the-variants.{Refused}
 use Rattle.edit.specs.Refusals.{listsRefusal}
 use Rattle.edit.proofs.Answering.{stop-answer, stop-inflow, stop-outflow, stop-storage, past-answer, past-inflow, past-outflow, past-storage}
+use Rattle.edit.proofs.EditOrder.{answer-is}
 use Rattle.edit.proofs.Ready.{edit-ok}
 use Rattle.edit.proofs.run.Statement.{statement}
 use Rattle.edit.proofs.run.Tie as tie
@@ -29,9 +30,10 @@ refused : tie.Need-returns
 refused c =
     let l = c .before .before in
     let a = S l .args in
-    let n : Lists l .number ≡ 0 → ⊥ = λ q. c .if1 .taken (ap number (checked l) ∙ q) in (
-      ap Refused (checked l) ∙ stop-answer (a .setup) (a .rain .now) (a .subareas .now) (a .pond .now) (a .inflow .now) (a .outflow .now) (a .storage .now) (a .place) (a .fresh .now) n,
-      (stop-inflow (a .setup) (a .rain .now) (a .subareas .now) (a .pond .now) (a .inflow .now) (a .outflow .now) (a .storage .now) (a .place) (a .fresh .now) n, (stop-outflow (a .setup) (a .rain .now) (a .subareas .now) (a .pond .now) (a .inflow .now) (a .outflow .now) (a .storage .now) (a .place) (a .fresh .now) n, stop-storage (a .setup) (a .rain .now) (a .subareas .now) (a .pond .now) (a .inflow .now) (a .outflow .now) (a .storage .now) (a .place) (a .fresh .now) n)),
+    let n : Lists l .number ≡ 0 → ⊥ = λ q. c .if1 .taken (ap number (checked l) ∙ q) in
+    let done = ap Refused (checked l) ∙ stop-answer (a .setup) (a .rain .now) (a .subareas .now) (a .pond .now) (a .inflow .now) (a .outflow .now) (a .storage .now) (a .place) (a .fresh .now) n in (
+      done,
+      (stop-inflow (a .setup) (a .rain .now) (a .subareas .now) (a .pond .now) (a .inflow .now) (a .outflow .now) (a .storage .now) (a .place) (a .fresh .now) n, (stop-outflow (a .setup) (a .rain .now) (a .subareas .now) (a .pond .now) (a .inflow .now) (a .outflow .now) (a .storage .now) (a .place) (a .fresh .now) n, (stop-storage (a .setup) (a .rain .now) (a .subareas .now) (a .pond .now) (a .inflow .now) (a .outflow .now) (a .storage .now) (a .place) (a .fresh .now) n, answer-is (a .setup) (a .rain .now) (a .subareas .now) (a .pond .now) (a .inflow .now) (a .outflow .now) (a .storage .now) (a .place) (a .fresh .now) _ done))),
     )
 
 clear : (e : tie.Else1) → Lists (e .before .before) .number ≡ 0
@@ -51,13 +53,14 @@ returns c =
     let e = d .before .before .before .before .before in
     let a = S (e .before .before) .args in
     let f = d .work .ensures in
-    let q = clear e in (
-      past-answer (a .setup) (a .rain .now) (a .subareas .now) (a .pond .now) (a .inflow .now) (a .outflow .now) (a .storage .now) (a .place) (a .fresh .now) q _ (f .0),
+    let q = clear e in
+    let done = past-answer (a .setup) (a .rain .now) (a .subareas .now) (a .pond .now) (a .inflow .now) (a .outflow .now) (a .storage .now) (a .place) (a .fresh .now) q _ (f .0) in (
+      done,
       (
         past-inflow (a .setup) (a .rain .now) (a .subareas .now) (a .pond .now) (a .inflow .now) (a .outflow .now) (a .storage .now) (a .place) (a .fresh .now) q _ (f .1 .0),
         (
           past-outflow (a .setup) (a .rain .now) (a .subareas .now) (a .pond .now) (a .inflow .now) (a .outflow .now) (a .storage .now) (a .place) (a .fresh .now) q _ (f .1 .1 .0),
-          past-storage (a .setup) (a .rain .now) (a .subareas .now) (a .pond .now) (a .inflow .now) (a .outflow .now) (a .storage .now) (a .place) (a .fresh .now) q _ (f .1 .1 .1),
+          (past-storage (a .setup) (a .rain .now) (a .subareas .now) (a .pond .now) (a .inflow .now) (a .outflow .now) (a .storage .now) (a .place) (a .fresh .now) q _ (f .1 .1 .1), answer-is (a .setup) (a .rain .now) (a .subareas .now) (a .pond .now) (a .inflow .now) (a .outflow .now) (a .storage .now) (a .place) (a .fresh .now) _ done),
         ),
       ),
     )
