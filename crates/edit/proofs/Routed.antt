@@ -27,7 +27,7 @@ use Rattle.study.specs.declared.StudyAnswer.{StudyAnswer}
 use Rattle.study.specs.declared.StudyAnswer.the-variants as Study
 use Rattle.study.specs.Records.{width, count}
 use Rattle.study.specs.Refusals.{refuse, none, orElse, unless, firstOf, recordsGood, runChecks, listChecks, pondChecks, checksOf, overCheck}
-use Rattle.study.specs.Study.{partOf, inflowAt, inflowRows, outflowRows, storageRows, classesAll, overOf, refusalOf, answerOf, figuresAll, after, passes, WorkOk}
+use Rattle.study.specs.Study.{partOf, inflowAt, inflowRows, outflowRows, storageRows, classesAll, figuresWith, overOf, refusalOf, answerOf, figuresAll, after, passes, WorkOk}
 use Rattle.study.proofs.Orders.{or-same, or-second, or-none}
 use Rattle.study.proofs.Inflows.{rows-length}
 use Rattle.study.proofs.Ready.{run-ok, work-ok}
@@ -37,7 +37,7 @@ use Rattle.edit.specs.declared.EditAnswer.the-variants.{Refused, Done}
 use Rattle.edit.specs.Altering.{altered, oldRecord, newInflow, firstChanged, outflowsFrom, storagesFrom}
 use Rattle.edit.specs.Fresh.{PlaceOk}
 use Rattle.edit.specs.Refusals.{placeGood, firstUnfit, overFrom, listsRefusal, rowsRefusal, editRefusal}
-use Rattle.edit.specs.Edit.{figuresWith, editedOf, editAnswer, inflowAfter, outflowAfter, storageAfter}
+use Rattle.edit.specs.Edit.{editedOf, editAnswer, inflowAfter, outflowAfter, storageAfter}
 use Rattle.edit.specs.Standing.{studyIn, Standing}
 use Rattle.edit.proofs.Places.{altered-length}
 use Rattle.edit.proofs.Swapping.{new-is, fit-all}

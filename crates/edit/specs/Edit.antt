@@ -14,10 +14,9 @@ use Rattle.rows.specs.Standing.{at, figuresOf, RowsOk}
 use Rattle.rows.specs.declared.RowFigures.{RowFigures}
 use Rattle.study.specs.declared.Setup.{Setup}
 use Rattle.study.specs.declared.Refusal.{Refusal}
-use Rattle.study.specs.declared.Figures.{Figures}
 use Rattle.study.specs.Records.{areaOf, patchesPass}
 use Rattle.study.specs.Refusals.{refuse, AllPatches}
-use Rattle.study.specs.Study.{classesAll, passes, nothing, after, RecordOk, ListOk}
+use Rattle.study.specs.Study.{classesAll, figuresWith, passes, nothing, after, RecordOk, ListOk}
 use Rattle.edit.specs.declared.Edited.{Edited}
 use Rattle.edit.specs.declared.EditAnswer.{EditAnswer}
 use Rattle.edit.specs.declared.EditAnswer.the-variants.{Refused, Done}
@@ -32,22 +31,6 @@ figuresFrom h p os ss ws a = figuresOf h p ws (outflowsFrom h p os ss ws a) (sto
 -- new less old, with its sign
 abbrev pub change : ℕ → ℕ → ℤ
 change new old = pos new -ℤ pos old
-
--- the figures of rows, with class areas
-abbrev pub figuresWith : Classes → RowFigures → Figures
-figuresWith c f =
-    record {
-      inflow = f .inflow;
-      released = f .kept .released;
-      storage = f .storage;
-      peak = f .kept .peak;
-      row = f .kept .row;
-      stage = f .kept .stage;
-      surfaces = c .surfaces;
-      districts = c .districts;
-      lots = c .lots;
-      rural = c .rural;
-    }
 
 -- what is told of new figures f, with class areas c, and old figures o
 abbrev pub told : Classes → RowFigures → RowFigures → ℕ → Edited

@@ -56,18 +56,7 @@ fn tell(own: RowFigures, old: RowFigures, classes: curve::Classes, changed: u64)
     requires { ⌜ SmallOk own × SmallOk old ⌝ }
     ensures { λ r. ⌜ r ≡ told classes own old changed ⌝ }
 {
-    let figures = Figures {
-        inflow: own.inflow,
-        released: own.kept.released,
-        storage: own.storage,
-        peak: own.kept.peak,
-        row: own.kept.row,
-        stage: own.kept.stage,
-        surfaces: classes.surfaces,
-        districts: classes.districts,
-        lots: classes.lots,
-        rural: classes.rural,
-    };
+    let figures = study::figures_with(classes, own);
     Edited {
         figures,
         changed,

@@ -40,6 +40,8 @@ use Rattle.study.proofs.copy.Kinds as copy-kinds
 use Rattle.study.proofs.copy.Reads as copy-reads
 use Rattle.study.proofs.all_classes.Kinds as all-classes-kinds
 use Rattle.study.proofs.all_classes.Reads as all-classes-reads
+use Rattle.study.proofs.figures_with.Kinds as figures-with-kinds
+use Rattle.study.proofs.figures_with.Reads as figures-with-reads
 use Rattle.study.proofs.add_record.Kinds as add-record-kinds
 use Rattle.study.proofs.add_record.Reads as add-record-reads
 use Rattle.study.proofs.inflow.Kinds as inflow-kinds
@@ -100,6 +102,9 @@ clear-one κs a x y s t p q = (refl, same p q)
 
 pub copy-one : OneAnswerAnd copy-kinds.ps copy-kinds.r {L = List ℕ} (λ κs s. now (s .1 .0)) copy-reads.Post
 copy-one κs a x y s t p q = (refl, same p q)
+
+pub figures-with-one : OneAnswer figures-with-kinds.ps figures-with-kinds.r figures-with-reads.Post
+figures-with-one κs a x y s t p q = same p q
 
 pub add-record-one : OneAnswerAnd add-record-kinds.ps add-record-kinds.r {L = List ℕ} (λ κs s. now (s .1 .1 .1 .0)) add-record-reads.Post
 add-record-one κs a x y s t p q = (refl, same p q)

@@ -5,20 +5,12 @@ use Prim.Native.Nat.{ℕ, _/_}
 use borrow.Author.Tests.{eq-eqb, ne-eqb}
 use Rattle.pond.specs.PondRows.{empty}
 use Rattle.rows.specs.Routing.{overRow}
-use Rattle.rows.specs.declared.RowFigures.{RowFigures}
-use Rattle.curve.specs.declared.Classes.{Classes}
 use Rattle.study.specs.declared.Setup.{Setup}
 use Rattle.study.specs.declared.Refusal.{Refusal}
-use Rattle.study.specs.declared.Figures.{Figures}
 use Rattle.study.specs.declared.StudyAnswer.the-variants.{Refused, Done}
 use Rattle.study.specs.Refusals.{refuse, none, checksOf, overCheck}
-use Rattle.study.specs.Study.{inflowRows, classesAll, withClasses, overOf, refusalOf, figuresAll, answerOf, settled, after}
+use Rattle.study.specs.Study.{inflowRows, overOf, refusalOf, figuresAll, answerOf, settled, after}
 use Rattle.study.proofs.Orders.{or-first, or-second}
-
--- figures of rows and class areas, as the code puts them together
-pub figures-same : (s : List ℕ) (f g : RowFigures) (c : Classes) → f ≡ g → c ≡ classesAll s
-    → _≡_ {A = Figures} (record { inflow = f .inflow; released = f .kept .released; storage = f .storage; peak = f .kept .peak; row = f .kept .row; stage = f .kept .stage; surfaces = c .surfaces; districts = c .districts; lots = c .lots; rural = c .rural }) (withClasses s g)
-figures-same s f g c e d = rw (e, d)
 
 -- nothing is refused: the list is written
 pub none-new : (v : Refusal) → v .number ≡ 0 → (new old : List ℕ) → new ≡ after v new old

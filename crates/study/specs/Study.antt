@@ -52,9 +52,9 @@ abbrev pub classesWith : Classes → Classes → Classes
 classesWith c d =
     record { surfaces = c .surfaces + d .surfaces; districts = c .districts + d .districts; lots = c .lots + d .lots; rural = c .rural + d .rural }
 
--- the figures of rows, with the class areas of a list
-abbrev pub withClasses : List ℕ → RowFigures → Figures
-withClasses s f =
+-- the figures of rows, with class areas
+abbrev pub figuresWith : Classes → RowFigures → Figures
+figuresWith c f =
     record {
       inflow = f .inflow;
       released = f .kept .released;
@@ -62,11 +62,15 @@ withClasses s f =
       peak = f .kept .peak;
       row = f .kept .row;
       stage = f .kept .stage;
-      surfaces = classTotal s 1;
-      districts = classTotal s 2;
-      lots = classTotal s 3;
-      rural = classTotal s 4;
+      surfaces = c .surfaces;
+      districts = c .districts;
+      lots = c .lots;
+      rural = c .rural;
     }
+
+-- with those of a list
+abbrev pub withClasses : List ℕ → RowFigures → Figures
+withClasses s f = figuresWith (classesAll s) f
 
 -- 14, of a study of m rows
 abbrev pub overOf : ℕ → List ℕ → List ℕ → List ℕ → ℕ → Refusal

@@ -5,6 +5,7 @@ pub mod checks;
 pub mod subarea;
 
 use pond::State;
+use rows::RowFigures;
 ghost use mathlib.Core.Path.{_≡_};
 ghost use Prim.Native.Nat.{ℕ, _+_, _/_, _≤_, _<_};
 ghost use lib.ListN.{length};
@@ -15,7 +16,7 @@ ghost use Rattle.rows.specs.Routing.{outflows, storages, passed, InflowOk};
 ghost use Rattle.rows.specs.Standing.{figuresOf};
 ghost use Rattle.study.specs.Records.{areaOf};
 ghost use Rattle.study.specs.Refusals.{overCheck, RecordsOk, AllPatches};
-ghost use Rattle.study.specs.Study.{partOf, rowsFrom, inflowRows, classesAll, classesWith, withClasses, overOf, inflowRefusal, refusalOf, answerOf, settled, outflowRows, storageRows, after, ClassesOk, RowsLent, RecordOk, ListOk, WorkOk};
+ghost use Rattle.study.specs.Study.{partOf, rowsFrom, inflowRows, classesAll, classesWith, figuresWith, withClasses, overOf, inflowRefusal, refusalOf, answerOf, settled, outflowRows, storageRows, after, ClassesOk, RowsLent, RecordOk, ListOk, WorkOk};
 
 // The numbers of a run: the step in seconds and the first row's number.
 pub struct Setup {
@@ -144,6 +145,24 @@ fn with_classes(sum: curve::Classes, own: curve::Classes) -> curve::Classes
     }
 }
 
+// The figures of rows, with class areas.
+pub fn figures_with(classes: curve::Classes, own: RowFigures) -> Figures
+    ensures { λ r. ⌜ r ≡ figuresWith classes own ⌝ }
+{
+    Figures {
+        inflow: own.inflow,
+        released: own.kept.released,
+        storage: own.storage,
+        peak: own.kept.peak,
+        row: own.kept.row,
+        stage: own.kept.stage,
+        surfaces: classes.surfaces,
+        districts: classes.districts,
+        lots: classes.lots,
+        rural: classes.rural,
+    }
+}
+
 // Writes rows that all pass, and gives their figures.
 fn finish(
     half: u64,
@@ -168,19 +187,7 @@ fn finish(
     };
     rows::route(pond, half, empty, new, outflow, storage);
     let own = rows::figures_of(pond, half, new, outflow, storage);
-    let classes = all_classes(subareas);
-    Figures {
-        inflow: own.inflow,
-        released: own.kept.released,
-        storage: own.storage,
-        peak: own.kept.peak,
-        row: own.kept.row,
-        stage: own.kept.stage,
-        surfaces: classes.surfaces,
-        districts: classes.districts,
-        lots: classes.lots,
-        rural: classes.rural,
-    }
+    figures_with(all_classes(subareas), own)
 }
 
 // Refusal 14, or the rows and their figures. Nothing is written before every row is known to pass.

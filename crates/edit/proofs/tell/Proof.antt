@@ -9,8 +9,9 @@ use Rattle.edit.proofs.tell.Tie as tie
 
 returns : tie.Need-returns
 returns c =
-    let s = c .before .before in
+    let s = c .before .before .before in
     simp (
+      c .before .before .figures-with .ensures,
       c .before .difference .ensures,
       c .difference2 .ensures,
       toZ-ofZ w64 (change (s .args .own .kept .peak) (s .args .old .kept .peak)) (differ _ _ (s .pre .0 .peak-most) (s .pre .1 .peak-most)),
@@ -18,4 +19,4 @@ returns c =
     )
 
 pub tell-spec : {M : Type 1} → statement M
-tell-spec = tie.close (tie.spec (λ c κs. search needs) (λ c κs. search needs) returns)
+tell-spec = tie.close (tie.spec (λ c κs. search needs) (λ c κs. search needs) (λ c κs. search needs) returns)

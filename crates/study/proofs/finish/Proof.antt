@@ -5,13 +5,14 @@ use Prim.Native.Nat.{ℕ}
 use native.Mathlib.Omega.{arith}
 use borrow.Author.Needs.{needs}
 use lib.ListN.{length}
+use Rattle.curve.specs.declared.Classes.{Classes}
 use Rattle.pond.specs.PondRows.{empty}
 use Rattle.pond.proofs.Steps.{empty-ok}
 use Rattle.rows.specs.Routing.{outflowOf, outflows}
 use Rattle.rows.specs.Standing.{figuresOf}
 use Rattle.rows.proofs.Columns.{column-length}
 use Rattle.rows.proofs.Reached.{rows-stand}
-use Rattle.study.proofs.Settling.{figures-same}
+use Rattle.study.specs.Study.{figuresWith, withClasses}
 use Rattle.study.proofs.finish.Statement.{statement}
 use Rattle.study.proofs.finish.Tie as tie
 
@@ -32,17 +33,23 @@ figures-of-requires c κs =
 
 returns : tie.Need-returns
 returns c =
-    let s = c .before .before .before .before .before .before .before .before .before .before .before .before .before .before .before .before .before .before .before .before .before in
+    let s = c .before .before .before .before .before .before .before .before .before .before .before .before .before .before .before .before .before .before .before .before .before .before in
     let h = s .args .half in
     let p = s .args .pond .now in
     let new = s .args .new .now in
-    let e = c .before .before .before .before .before .before .before .before .route .ensures in (
-      figures-same (s .args .subareas .now) _ _ (c .all-classes .result)
-          (c .before .figures-of .ensures ∙ ap (λ (z : List ℕ). figuresOf h p new z (c .before .before .before .before .before .before .before .before .route .last .1 .1 .1 .1 .1 .0)) (e .0) ∙ ap (λ (z : List ℕ). figuresOf h p new (outflows h p empty new) z) (e .1))
-          (c .all-classes .ensures),
-      (c .before .before .before .before .before .before .before .before .before .before .before .before .before .copy .ensures, e),
+    let e = c .before .before .before .before .before .before .before .before .before .route .ensures in
+    let own = c .before .before .figures-of in (
+      c .figures-with .ensures
+          ∙ ap (λ (z : Classes). figuresWith z (own .result)) (c .before .all-classes .ensures)
+          ∙ ap (withClasses (s .args .subareas .now)) (own .ensures ∙ ap (λ (z : List ℕ). figuresOf h p new z (c .before .before .before .before .before .before .before .before .before .route .last .1 .1 .1 .1 .1 .0)) (e .0) ∙ ap (λ (z : List ℕ). figuresOf h p new (outflows h p empty new) z) (e .1)),
+      (c .before .before .before .before .before .before .before .before .before .before .before .before .before .before .copy .ensures, e),
     )
+
+long : tie.Need-same-length
+long c =
+    let s = c .before .before .before .before .before .before .before .before .before .before .before .before .before .before .before .before .before .before .before .before .before .before in
+    ap length (c .before .before .before .before .before .before .before .before .before .before .before .before .before .before .copy .ensures) ∙ sym (s .pre .1 .in-long)
 
 pub finish-spec : {M : Type 1} → statement M
 finish-spec =
-    tie.close (tie.spec (λ c κs. search needs) route-requires figures-of-requires (λ c κs. search needs) (λ c. search needs) (λ c. search needs) (λ c. search needs) returns)
+    tie.close (tie.spec (λ c κs. search needs) route-requires figures-of-requires (λ c κs. search needs) (λ c κs. search needs) long (λ c. search needs) (λ c. search needs) returns)
