@@ -5,8 +5,9 @@ use mathlib.Core.Logic.{⊎-elim}
 use Prim.Native.Nat.{ℕ, zero, suc, _+_, _-_, _*_, _/_, _≤_, _<_}
 use native.Mathlib.Nat.{eq-or-lt-of-le, eq-zero-or-pos, mul-le-mul, mul-le-mul-left, mul-le-mul-right, div-le-of-le-mul, le-div-iff-mul-le, mul-sub}
 use native.Mathlib.Omega.{arith}
-use borrow.Author.Tests.{leb-true, ltb-true, ltb-false, le-ltb}
-use lib.Dec.{leb, ltb}
+use borrow.Author.Tests.{leb-true, le-leb, lt-leb, eqb-true, ltb-true, ltb-false, le-ltb}
+use lib.Dec.{leb, ltb, eqb}
+use Rattle.laws.specs.Pick.{pick}
 use Rattle.laws.specs.Scan.{scan}
 use Rattle.laws.proofs.Num.{below-or-not}
 use Rattle.laws.proofs.Tests.{both-left, both-right}
@@ -48,6 +49,26 @@ all-within = refl
 
 pub time-most : (i : ℕ) → i < 33 → time i ≤ 50
 time-most i l = leb-true (time i) 50 (scan-all (λ i. leb (time i) 50) 33 0 all-within i (omega arith) (omega arith))
+
+-- knots stand 1 apart to 20, 2 apart to 40, then 5
+abbrev spaced : ℕ → ℕ
+spaced i = pick (leb i 20) i (pick (leb i 30) (2 * i - 20) (5 * i - 110))
+
+all-spaced : scan (λ i. eqb (time i) (spaced i)) 33 0 ≡ 33
+unfolding scan time
+all-spaced = refl
+
+time-spaced : (i : ℕ) → i < 33 → time i ≡ spaced i
+time-spaced i l = eqb-true (time i) (spaced i) (scan-all (λ i. eqb (time i) (spaced i)) 33 0 all-spaced i (omega arith) (omega arith))
+
+pub time-near-first : (i : ℕ) → i ≤ 20 → i ≡ time i
+time-near-first i l = sym (time-spaced i (omega arith) ∙ rw (le-leb i 20 l))
+
+pub time-further : (i : ℕ) → 20 < i → i ≤ 30 → 2 * i - 20 ≡ time i
+time-further i a b = sym (time-spaced i (omega arith) ∙ rw (lt-leb i 20 a, le-leb i 30 b))
+
+pub time-far : (i : ℕ) → 30 < i → i < 33 → 5 * i - 110 ≡ time i
+time-far i a b = sym (time-spaced i b ∙ rw (lt-leb i 20 (omega arith), lt-leb i 30 a))
 
 pub time-first : time 0 ≡ 0
 unfolding time

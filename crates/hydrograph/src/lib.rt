@@ -10,43 +10,7 @@ ghost use Rattle.curve.specs.CurveNumbers.{CurveOk};
 ghost use Rattle.travel.specs.TravelTime.{TimeOk};
 ghost use Rattle.hydrograph.specs.InflowRows.{time, ratio, lineAt, onLine, weight, weightAt, weights, totalWeight, product, runoffAt, volumeOf, part, plus, LineOk, TimingOk, RainOk, Below, RoomOk, TimesOk, timingGood, firstMistimed, mostStep, mostArea, mostDepth};
 
-// The shape: times in tenths of the time to peak, ratios in thousandths of the peak.
-const TIMES: [u64; 33] = [
-    0,
-    1,
-    2,
-    3,
-    4,
-    5,
-    6,
-    7,
-    8,
-    9,
-    10,
-    11,
-    12,
-    13,
-    14,
-    15,
-    16,
-    17,
-    18,
-    19,
-    20,
-    22,
-    24,
-    26,
-    28,
-    30,
-    32,
-    34,
-    36,
-    38,
-    40,
-    45,
-    50,
-];
-
+// The shape's ratios, in thousandths of the peak.
 const RATIOS: [u64; 33] = [
     0,
     30,
@@ -83,11 +47,20 @@ const RATIOS: [u64; 33] = [
     0,
 ];
 
+// The shape's times, in tenths of the time to peak: knots stand 1 apart to 20, 2 apart to 40, then 5. Worked out, since a
+// table that is read for each knot of each weight would be laid on the stack as often.
 fn time_at(i: usize) -> u64
     requires { ⌜ i < 33 ⌝ }
     ensures { λ r. ⌜ r ≡ time i ⌝ }
 {
-    TIMES[i]
+    let k = i as u64;
+    if k <= 20 {
+        return k;
+    }
+    if k <= 30 {
+        return 2 * k - 20;
+    }
+    5 * k - 110
 }
 
 fn ratio_at(i: usize) -> u64
