@@ -176,7 +176,7 @@ void take_site(const char *kind, const struct site *s)
     static struct mark m;
     if (!wanted(SITE_CASES))
         return;
-    struct prng r = prng_of(run.seed, run.number + 1);
+    struct prng r = prng_of(~run.seed, run.number + 1); /* not those that a random site was made of */
     take_study(kind, s);
     edit_of(&e, s, &r);
     take_edit(kind, &e);
