@@ -60,17 +60,24 @@ static void make_inputs(struct inputs *in, struct prng *r, void (*make)(struct s
 
 /* ---- The calls. Those that are repeated leave what they are lent as they found it, or write the same again. */
 
-struct timed {
-    const char *what;
-    struct inputs *inputs;
-    void (*lend)(const struct inputs *);
-    void (*engine)(const struct inputs *), (*plain)(const struct inputs *);
-    int repeats; /* calls timed together */
+struct call_of {
+    const char *whose;
+    void (*lend)(const struct inputs *), (*make)(const struct inputs *);
 };
 
 static void lend_for_study(const struct inputs *in)
 {
     lend_study(&call, &in->edit.site, false);
+}
+
+static void lend_for_edit(const struct inputs *in)
+{
+    lend_edit(&call, &in->edit, false);
+}
+
+static void lend_for_mark(const struct inputs *in)
+{
+    lend_mark(&call, &in->mark, false);
 }
 
 static void time_study(const struct inputs *in)
@@ -83,11 +90,6 @@ static void time_plain_study(const struct inputs *in)
     plainly_study(&call, &in->edit.site);
 }
 
-static void lend_for_edit(const struct inputs *in)
-{
-    lend_edit(&call, &in->edit, false);
-}
-
 static void time_edit(const struct inputs *in)
 {
     engine_edit(&call, &in->edit);
@@ -96,11 +98,6 @@ static void time_edit(const struct inputs *in)
 static void time_plain_edit(const struct inputs *in)
 {
     plainly_edit(&call, &in->edit);
-}
-
-static void lend_for_mark(const struct inputs *in)
-{
-    lend_mark(&call, &in->mark, false);
 }
 
 static void time_mark(const struct inputs *in)
@@ -112,6 +109,13 @@ static void time_plain_mark(const struct inputs *in)
 {
     plainly_mark(&call, &in->mark);
 }
+
+static const struct call_of STUDY = { "engine", lend_for_study, time_study };
+static const struct call_of PLAIN_STUDY = { "plain C", lend_for_study, time_plain_study };
+static const struct call_of EDIT = { "engine", lend_for_edit, time_edit };
+static const struct call_of PLAIN_EDIT = { "plain C", lend_for_edit, time_plain_edit };
+static const struct call_of MARK = { "engine", lend_for_mark, time_mark };
+static const struct call_of PLAIN_MARK = { "plain C", lend_for_mark, time_plain_mark };
 
 /* ---- Time */
 
@@ -135,53 +139,49 @@ static double median(double *times)
 }
 
 /* Microseconds of one call. Nothing is timed that is not done. */
-static double time_of(const struct timed *t, void (*make)(const struct inputs *))
+static double time_of(const struct inputs *in, const struct call_of *c, int repeats)
 {
-    t->lend(t->inputs);
+    c->lend(in);
     double start = now();
-    for (int i = 0; i < t->repeats; i++)
-        make(t->inputs);
+    for (int i = 0; i < repeats; i++)
+        c->make(in);
     double end = now();
     if (call.gave != 0) {
         fprintf(stderr, "host: what is timed was refused\n");
         exit(2);
     }
-    return (end - start) / t->repeats;
+    return (end - start) / repeats;
 }
 
-/* The two take turns at being first. Gives the engine's median. */
-static double print_times(const struct timed *t)
+/* The two take turns at being first. Each round has its own ratio: a machine that slows down for a while slows both. */
+static void print_times(const char *what, const struct inputs *in, const struct call_of *a, const struct call_of *b,
+                        int repeats)
 {
-    double engine[ROUNDS], plain[ROUNDS];
+    double one[ROUNDS], other[ROUNDS], ratio[ROUNDS];
     for (int i = 0; i < ROUNDS; i++) {
         if (i % 2 == 0)
-            engine[i] = time_of(t, t->engine);
-        plain[i] = time_of(t, t->plain);
+            one[i] = time_of(in, a, repeats);
+        other[i] = time_of(in, b, repeats);
         if (i % 2 != 0)
-            engine[i] = time_of(t, t->engine);
+            one[i] = time_of(in, a, repeats);
+        ratio[i] = one[i] / other[i];
     }
-    double one = median(engine), other = median(plain);
-    printf("bench: %-58s engine %8.2f us, plain C %8.2f us, %.3f\n", t->what, one, other, one / other);
-    return one;
+    printf("bench: %-48s %s %8.2f us, %s %8.2f us, %.3f\n", what, a->whose, median(one), b->whose, median(other),
+           median(ratio));
 }
 
 void benchmark(u64 seed)
 {
-    static const struct timed all[] = {
-        { "a study of 16 subareas, 2,000 rows, 512 weights", &large, lend_for_study, time_study, time_plain_study, 1 },
-        { "an edit of one of the 16", &large, lend_for_edit, time_edit, time_plain_edit, 1 },
-        { "a mark of its last row", &large, lend_for_mark, time_mark, time_plain_mark, 50 },
-        { "a study of 4 subareas, 480 rows, 15 weights", &typical, lend_for_study, time_study, time_plain_study, 20 },
-        { "an edit of one of the 4", &typical, lend_for_edit, time_edit, time_plain_edit, 1 },
-        { "a mark of its last row", &typical, lend_for_mark, time_mark, time_plain_mark, 200 },
-    };
-    double engine[6];
     struct prng r = prng_of(seed, 1);
     make_inputs(&large, &r, large_site);
     make_inputs(&typical, &r, typical_site);
-    printf("bench: medians of %d, one process, the same inputs; last, engine : plain C\n", ROUNDS);
-    for (int i = 0; i < 6; i++)
-        engine[i] = print_times(&all[i]);
-    printf("bench: the engine's edit of one of 16 : its study of 16  %.3f\n", engine[1] / engine[0]);
-    printf("bench: the engine's edit of one of 4 : its study of 4  %.3f\n", engine[4] / engine[3]);
+    printf("bench: medians of %d rounds, one process, the same inputs; last, the ratio of the two\n", ROUNDS);
+    print_times("a study of 16 subareas, 2,000 rows, 512 weights", &large, &STUDY, &PLAIN_STUDY, 1);
+    print_times("an edit of one of the 16", &large, &EDIT, &PLAIN_EDIT, 1);
+    print_times("a mark of its last row", &large, &MARK, &PLAIN_MARK, 50);
+    print_times("a study of 4 subareas, 480 rows, 15 weights", &typical, &STUDY, &PLAIN_STUDY, 20);
+    print_times("an edit of one of the 4", &typical, &EDIT, &PLAIN_EDIT, 1);
+    print_times("a mark of its last row", &typical, &MARK, &PLAIN_MARK, 200);
+    print_times("an edit of one of 16, and a new study of 16", &large, &EDIT, &STUDY, 1);
+    print_times("an edit of one of 4, and a new study of 4", &typical, &EDIT, &STUDY, 1);
 }
