@@ -1,4 +1,4 @@
-/* The reference held to document 01's 'Figures to check by'. */
+/* The reference held to document 01's 'Figures to check by', and to worked inputs of docs/DECISIONS.md. */
 #ifndef FIGURES_H
 #define FIGURES_H
 
