@@ -1,10 +1,10 @@
-// hold.js ENGINE.wasm CASES STACK: makes the calls in CASES of the engine in WebAssembly, and holds what each gives back
-// and leaves in memory to what the native engine did, which stands in CASES too (the head of cases.c has its form).
+// hold.js ENGINE.wasm CASES STACK: makes the calls in CASES of the engine in WebAssembly, and holds what each gives
+// back and leaves in memory to what the native engine did, which stands in CASES too; the head of cases.c has its form.
 // STACK: the bytes of stack that ENGINE.wasm was linked with, from address 0 on.
 //
 // How parameters arrive: a number, a list's length and what is given back have 64 bits and are BigInt; a pointer is an
-// address in the module's memory, has 32 bits and is Number. A BigInt given back is signed: BigInt.asUintN(64, x) is the
-// engine's number.
+// address in the module's memory, has 32 bits and is Number. A BigInt given back is signed: BigInt.asUintN(64, x) is
+// the engine's number.
 "use strict";
 const fs = require("fs");
 
