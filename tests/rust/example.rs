@@ -62,8 +62,9 @@ struct Rows {
 /// The answer's twelve numbers, or the refusal's number and place; then the rows are as they were.
 fn study(site: &Site, rows: &mut Rows) -> Result<[u64; 12], (u64, u64)> {
     let mut answer = [0; 12];
-    // SAFETY: what the boundary asks, these borrows give: no pointer is null, each list is as long as its length says,
-    // none that is written overlaps another, and nobody else writes to one meanwhile.
+    // SAFETY: these borrows give that no pointer is null, that each list is as long as its length says, that none which
+    // is written overlaps another, and that nobody else writes to one meanwhile. That those which are only read do not
+    // overlap is left to who makes a Site.
     let refusal = unsafe {
         bt_study_records(
             site.step, site.first,
