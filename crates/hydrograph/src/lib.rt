@@ -10,8 +10,8 @@ ghost use Rattle.curve.specs.CurveNumbers.{CurveOk};
 ghost use Rattle.travel.specs.TravelTime.{TimeOk};
 ghost use Rattle.hydrograph.specs.InflowRows.{time, ratio, lineAt, onLine, weight, weightAt, weights, totalWeight, product, runoffAt, volumeOf, part, plus, LineOk, TimingOk, RainOk, Below, RoomOk, TimesOk, timingGood, firstMistimed, mostStep, mostArea, mostDepth};
 
-// The shape's ratios, in thousandths of the peak.
-const RATIOS: [u64; 33] = [
+// The shape's ratios, in thousandths of the peak; narrow, since the table is laid on the stack where it is read.
+const RATIOS: [u16; 33] = [
     0,
     30,
     100,
@@ -63,11 +63,17 @@ fn time_at(i: usize) -> u64
     5 * k - 110
 }
 
+fn wider(x: u16) -> u64
+    ensures { λ r. ⌜ r ≡ x ⌝ }
+{
+    x as u64
+}
+
 fn ratio_at(i: usize) -> u64
     requires { ⌜ i < 33 ⌝ }
     ensures { λ r. ⌜ r ≡ ratio i ⌝ }
 {
-    RATIOS[i]
+    wider(RATIOS[i])
 }
 
 // The line between knots on which a time, in tenths of a second, lies.

@@ -9,4 +9,4 @@ unfolding ratio
 returns c = search needs
 
 pub ratio-at-spec : {M : Type 1} → statement M
-ratio-at-spec = tie.close (tie.spec (λ c. search needs) (λ c. search needs) returns)
+ratio-at-spec = tie.close (tie.spec (λ c. search needs) (λ c. search needs) (λ c κs. search needs) returns)
