@@ -1,14 +1,13 @@
 -- The first changed row, and the rows before and from it on. Assumes nothing.
-use mathlib.Core.Path.{_≡_, refl, sym, ap, _∙_}
+use mathlib.Core.Path.{_≡_, sym, ap, _∙_}
 use mathlib.Core.Logic.{⊎-elim}
 use mathlib.Core.List.{List, _++_}
 use Prim.Native.Nat.{ℕ, zero, suc, _+_, _-_, _*_, _≤_, _<_}
 use native.Mathlib.Omega.{arith}
-use borrow.Author.Tests.{eqb-true, eqb-false, ne-eqb, eq-eqb}
+use borrow.Author.Tests.{eqb-true, eqb-false, ne-eqb}
 use lib.Dec.{eqb}
 use lib.ListN.{length, take, drop, take-append-drop, length-drop, length-append, List·getD-append}
-use lib.Seq.{ext-getD, getD-take, getD-append-add, length-take-le, take-all}
-use Rattle.laws.specs.Pick.{pick}
+use lib.Seq.{ext-getD, getD-take, getD-append-add, length-take-le}
 use borrow.Rule.Slice.PartMut.{putMid}
 use Rattle.laws.proofs.Num.{below-or-not}
 use Rattle.laws.proofs.Fill.{tail-part, tail-back}

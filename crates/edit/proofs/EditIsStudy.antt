@@ -6,29 +6,24 @@ use Prim.Native.Nat.{ℕ, _+_, _-_, _/_, _≤_, _<_}
 use native.Mathlib.Omega.{arith}
 use borrow.Author.Tests.{eqb-true}
 use lib.Dec.{eqb}
-use lib.ListN.{length, take}
-use lib.Seq.{take-at, length-take-le, take-all}
+use lib.ListN.{length}
 use Rattle.laws.specs.Pick.{pick}
 use Rattle.laws.specs.Sum.{sumTo}
 use Rattle.rows.specs.Standing.{at, releaseAt}
 use Rattle.study.specs.declared.Setup.{Setup}
-use Rattle.study.specs.declared.Refusal.{Refusal}
 use Rattle.study.specs.declared.Figures.{Figures}
 use Rattle.study.specs.declared.StudyAnswer.{StudyAnswer}
 use Rattle.study.specs.declared.StudyAnswer.the-variants as Study
 use Rattle.study.specs.Records.{width, count}
-use Rattle.study.specs.Study.{inflowAt, inflowRows, outflowRows, storageRows, refusalOf, answerOf, figuresAll, after, passes}
-use Rattle.study.proofs.Inflows.{rows-length}
+use Rattle.study.specs.Study.{inflowRows, outflowRows, storageRows, refusalOf, answerOf, figuresAll, after}
 use Rattle.study.proofs.Settling.{none-new}
 use Rattle.study.proofs.Order.{row-numbers, study-balance}
 use Rattle.edit.specs.declared.Edited.{Edited}
-use Rattle.edit.specs.declared.EditAnswer.{EditAnswer}
 use Rattle.edit.specs.declared.EditAnswer.the-variants.{Refused, Done}
-use Rattle.edit.specs.Altering.{altered, newInflow, firstChanged}
-use Rattle.edit.specs.Refusals.{editRefusal}
-use Rattle.edit.specs.Edit.{editedOf, editAnswer, inflowAfter, outflowAfter, storageAfter}
+use Rattle.edit.specs.Altering.{altered}
+use Rattle.edit.specs.Edit.{editAnswer, inflowAfter, outflowAfter, storageAfter}
 use Rattle.edit.specs.Standing.{studyIn, Standing, studied, edited}
-use Rattle.edit.proofs.Routed.{rows-long, out-long, held-long, refusal-same, answer-same, inflow-left, outflow-left, storage-left}
+use Rattle.edit.proofs.Routed.{rows-long, out-long, held-long, answer-same, inflow-left, outflow-left, storage-left}
 
 -- a done answer refuses nothing
 abbrev isDone : StudyAnswer → Bool

@@ -1,7 +1,7 @@
 -- The class areas of the altered list: those of the list, less the old record's, with the fresh one's. Assumes nothing.
 use mathlib.Core.Path.{_≡_}
 use mathlib.Core.List.{List}
-use Prim.Native.Nat.{ℕ, _+_, _-_, _≤_, _<_}
+use Prim.Native.Nat.{ℕ, _+_, _-_, _≤_}
 use native.Mathlib.Omega.{arith}
 use Rattle.laws.proofs.Sums.{sum-term}
 use Rattle.curve.specs.CurveNumbers as Curve

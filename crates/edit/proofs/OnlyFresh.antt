@@ -2,15 +2,15 @@
 use mathlib.Core.Path.{_≡_, refl, ap}
 use mathlib.Core.Bool.{Bool, true, false}
 use mathlib.Core.List.{List}
-use Prim.Native.Nat.{ℕ, suc, _+_, _-_, _≤_, _<_}
+use Prim.Native.Nat.{ℕ, suc, _-_, _≤_, _<_}
 use native.Mathlib.Omega.{arith}
 use lib.Dec.{leb}
 use Rattle.laws.proofs.Sums.{sum-term}
 use Rattle.hydrograph.specs.InflowRows.{mostArea, timingGood}
 use Rattle.study.specs.Records.{count, recordAt, areaOf, timeOf, patchesPass, segmentsPass}
-use Rattle.study.specs.Refusals.{orElse, unless, firstOf, firstPatches, firstSegments, firstTiming, allArea, timingChecks, listChecks}
+use Rattle.study.specs.Refusals.{unless, firstOf, firstPatches, firstSegments, firstTiming, allArea, timingChecks, listChecks}
 use Rattle.study.specs.Study.{RecordOk}
-use Rattle.study.proofs.Orders.{or-same, or-none, unless-none, first-none}
+use Rattle.study.proofs.Orders.{or-same, or-none, first-none}
 use Rattle.study.proofs.Passed.{each-passes}
 use Rattle.study.proofs.Ready.{list-ok}
 use Rattle.edit.specs.Altering.{altered, oldRecord}

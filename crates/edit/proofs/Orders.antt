@@ -2,7 +2,7 @@
 use mathlib.Core.Path.{_≡_, sym, ap, _∙_}
 use Rattle.study.specs.declared.Refusal.{Refusal}
 use Rattle.study.specs.Refusals.{orElse}
-use Rattle.study.proofs.Orders.{or-same, or-none, or-first, or-second, or-front, or-past}
+use Rattle.study.proofs.Orders.{or-first, or-second}
 use Rattle.study.proofs.Order.{or-assoc}
 
 module _ (a b c d e : Refusal) where

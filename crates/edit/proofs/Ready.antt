@@ -1,17 +1,16 @@
 -- What the checks of an edit leave. Assumes nothing.
-use mathlib.Core.Path.{_≡_, refl, sym, ap, _∙_}
+use mathlib.Core.Path.{_≡_}
 use mathlib.Core.List.{List}
-use Prim.Native.Nat.{ℕ, _+_, _-_, _/_, _≤_, _<_}
-use native.Mathlib.Omega.{arith}
+use Prim.Native.Nat.{ℕ, _-_, _/_}
 use lib.ListN.{length}
 use Rattle.laws.proofs.Tests.{kept}
 use Rattle.study.specs.declared.Setup.{Setup}
 use Rattle.study.specs.Records.{width, count}
-use Rattle.study.specs.Refusals.{orElse, unless, runChecks, listChecks, pondChecks}
+use Rattle.study.specs.Refusals.{unless, runChecks, listChecks, pondChecks}
 use Rattle.study.proofs.Orders.{or-none, unless-none}
 use Rattle.study.proofs.Ready.{RunOk, run-ok, half-ok, list-ok, pond-fits}
 use Rattle.edit.specs.Altering.{altered}
-use Rattle.edit.specs.Fresh.{PlaceOk, PassedOk}
+use Rattle.edit.specs.Fresh.{PlaceOk}
 use Rattle.edit.specs.Refusals.{placeGood, listsRefusal}
 use Rattle.edit.specs.Edit.{EditOk}
 use Rattle.edit.proofs.OnlyFresh.{fresh-ok}

@@ -3,42 +3,37 @@ use mathlib.Core.Path.{_≡_, refl, sym, ap, _∙_}
 use mathlib.Core.Bool.{Bool, true, false}
 use mathlib.Core.Logic.{⊎-elim}
 use mathlib.Core.List.{List}
-use Prim.Native.Nat.{ℕ, _+_, _-_, _*_, _/_, _≤_, _<_}
+use Prim.Native.Nat.{ℕ, _+_, _-_, _/_, _≤_, _<_}
 use native.Mathlib.Omega.{arith}
-use borrow.Author.Tests.{eqb-true, eq-eqb, ne-eqb, lt-ltb, le-ltb}
+use borrow.Author.Tests.{eqb-true, ne-eqb, lt-ltb, le-ltb}
 use lib.Dec.{eqb}
 use lib.ListN.{length, take, drop, take-append-drop, length-drop}
 use lib.Seq.{length-take-le}
 use Rattle.laws.specs.Pick.{pick}
-use Rattle.laws.specs.Sum.{sumTo}
 use Rattle.laws.proofs.Num.{below-or-not}
 use Rattle.laws.proofs.Tests.{keeps}
 use Rattle.pond.specs.PondRows.{empty}
 use Rattle.pond.specs.declared.State.{State}
 use Rattle.rows.specs.Routing.{endOf, outflowOf, storageOf, outflows, storages, passed, overRow, stateBefore}
-use Rattle.rows.specs.Standing.{at, releaseAt, figuresOf, firstForged}
+use Rattle.rows.specs.Standing.{figuresOf, firstForged}
 use Rattle.rows.proofs.Prefix.{passed-append, passed-take}
 use Rattle.rows.proofs.Columns.{column-length, before-is, edit-is-new}
 use Rattle.rows.proofs.Told.{over-none, routed-pass}
 use Rattle.study.specs.declared.Setup.{Setup}
 use Rattle.study.specs.declared.Refusal.{Refusal}
-use Rattle.study.specs.declared.Figures.{Figures}
-use Rattle.study.specs.declared.StudyAnswer.{StudyAnswer}
 use Rattle.study.specs.declared.StudyAnswer.the-variants as Study
 use Rattle.study.specs.Records.{width, count}
 use Rattle.study.specs.Refusals.{refuse, none, orElse, unless, firstOf, recordsGood, runChecks, listChecks, pondChecks, checksOf, overCheck}
 use Rattle.study.specs.Study.{partOf, inflowAt, inflowRows, outflowRows, storageRows, classesAll, figuresWith, overOf, refusalOf, answerOf, figuresAll, after, passes, WorkOk}
 use Rattle.study.proofs.Orders.{or-same, or-second, or-none}
 use Rattle.study.proofs.Inflows.{rows-length}
-use Rattle.study.proofs.Ready.{run-ok, work-ok}
-use Rattle.edit.specs.declared.Edited.{Edited}
-use Rattle.edit.specs.declared.EditAnswer.{EditAnswer}
+use Rattle.study.proofs.Ready.{work-ok}
 use Rattle.edit.specs.declared.EditAnswer.the-variants.{Refused, Done}
 use Rattle.edit.specs.Altering.{altered, oldRecord, newInflow, firstChanged, outflowsFrom, storagesFrom}
 use Rattle.edit.specs.Fresh.{PlaceOk}
 use Rattle.edit.specs.Refusals.{placeGood, firstUnfit, overFrom, listsRefusal, rowsRefusal, editRefusal}
 use Rattle.edit.specs.Edit.{editedOf, editAnswer, inflowAfter, outflowAfter, storageAfter}
-use Rattle.edit.specs.Standing.{studyIn, Standing}
+use Rattle.edit.specs.Standing.{studyIn}
 use Rattle.edit.proofs.Places.{altered-length}
 use Rattle.edit.proofs.Swapping.{new-is, fit-all}
 use Rattle.edit.proofs.Changed.{changed-most, changed-front}

@@ -1,11 +1,10 @@
 -- What 16 and 17 decide, where they leave the answer to 14, and what they leave. Assumes nothing.
-use mathlib.Core.Path.{_≡_, refl, sym, ap, _∙_}
+use mathlib.Core.Path.{_≡_, refl, sym, _∙_}
 use mathlib.Core.List.{List}
 use Prim.Native.Nat.{ℕ, _+_, _-_, _/_, _≤_, _<_}
 use native.Mathlib.Omega.{arith}
-use borrow.Author.Tests.{eq-eqb, ne-eqb}
+use borrow.Author.Tests.{ne-eqb}
 use lib.ListN.{length}
-use Rattle.laws.specs.Scan.{scan}
 use Rattle.laws.proofs.Scans.{scan-most}
 use Rattle.laws.proofs.Sums.{sum-term}
 use Rattle.curve.specs.declared.Classes.{Classes}

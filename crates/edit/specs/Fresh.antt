@@ -1,6 +1,6 @@
 -- What is left of 6 to 11 on the altered list, once the list as it stands has passed them: only the fresh record can fail 6, 7, 9, 10 or 11, and 8 is the total less the old area plus the new.
 use mathlib.Core.Path.{_≡_}
-use mathlib.Core.Bool.{Bool, true}
+use mathlib.Core.Bool.{Bool}
 use mathlib.Core.List.{List}
 use Prim.Native.Nat.{ℕ, _+_, _-_, _≤_}
 use lib.Dec.{leb}
@@ -10,7 +10,7 @@ use Rattle.curve.specs.declared.Classes.{Classes}
 use Rattle.hydrograph.specs.InflowRows.{mostArea, mostStep, timingGood}
 use Rattle.study.specs.declared.Refusal.{Refusal}
 use Rattle.study.specs.Records.{width, count, areaOf, timeOf, patchesPass, segmentsPass}
-use Rattle.study.specs.Refusals.{refuse, none, orElse, unless, allArea, listChecks, RecordsOk, AllPatches}
+use Rattle.study.specs.Refusals.{refuse, none, orElse, unless, allArea, listChecks, RecordsOk}
 use Rattle.edit.specs.Altering.{oldRecord}
 
 -- a test with a place

@@ -1,5 +1,4 @@
 -- Each promise of an entry over records allows one answer, and one later content of what it is lent. Assumes nothing.
-use mathlib.Core.Path.{_≡_}
 use mathlib.Core.List.{List}
 use Prim.Native.Nat.{ℕ}
 use lib.IntN.{ℤ}

@@ -21,7 +21,6 @@ use Rattle.study.proofs.Order.{firstRefusal, after-three, pond-split}
 use Rattle.marks.specs.declared.Mark.{Mark}
 use Rattle.marks.specs.declared.Mark.the-variants.{Nothing, Outflow, Peak}
 use Rattle.marks.specs.declared.Marked.{Marked}
-use Rattle.marks.specs.declared.Point.{Point}
 use Rattle.marks.specs.declared.MarkAnswer.{MarkAnswer}
 use Rattle.marks.specs.declared.MarkAnswer.the-variants.{Refused, Done}
 use Rattle.marks.specs.ChartMarks.{doubleOf, markedOf, rowChecks, refusalOf, answerOf, refusalIn, kindOf, flowOf, stageOf, kindIn, valuesIn}

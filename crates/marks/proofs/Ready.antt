@@ -1,7 +1,7 @@
 -- What the refusals of a mark leave. Assumes nothing.
 use mathlib.Core.Path.{_≡_, sym, _∙_}
 use mathlib.Core.List.{List}
-use Prim.Native.Nat.{ℕ, _+_, _-_, _*_, _/_, _≤_, _<_}
+use Prim.Native.Nat.{ℕ, _-_, _/_, _≤_}
 use native.Mathlib.Nat.{mul-le-mul}
 use native.Mathlib.Omega.{arith}
 use lib.ListN.{length}
@@ -9,7 +9,7 @@ use Rattle.laws.specs.Within.{within}
 use Rattle.laws.proofs.Tests.{kept}
 use Rattle.laws.proofs.Scans.{scan-most}
 use Rattle.pond.specs.PondRows.{count, PondOk}
-use Rattle.rows.specs.Standing.{at, standsGood, firstForged, RowOk, RowsOk}
+use Rattle.rows.specs.Standing.{at, standsGood, firstForged, RowOk}
 use Rattle.rows.proofs.Told.{rows-ok}
 use Rattle.study.specs.declared.Setup.{Setup}
 use Rattle.study.specs.Refusals.{unless, firstOf, markChecks, pondChecks}

@@ -1,5 +1,4 @@
 -- Document 01, 'Chart marks' and refusals 17 and 18: a row's mark and point, and what a mark answers.
-use mathlib.Core.Path.{_≡_}
 use mathlib.Core.List.{List, [], _∷_}
 use Prim.Native.Nat.{ℕ, _+_, _-_, _*_, _/_, _≤_}
 use lib.ListN.{length}

@@ -7,7 +7,7 @@ use borrow.Author.Needs.{needs}
 use lib.ListN.{length, length-take, length-drop}
 use Rattle.rows.specs.Standing.{figuresOf, RowsOk}
 use Rattle.rows.specs.declared.RowFigures.{RowFigures}
-use Rattle.edit.specs.Altering.{changedAt, outflowsFrom, storagesFrom}
+use Rattle.edit.specs.Altering.{changedAt, outflowsFrom}
 use Rattle.edit.specs.Edit.{told, figuresFrom, editedOf}
 use Rattle.edit.proofs.Changed.{before-ok, rows-left, out-length, figures-small, tail-written}
 use Rattle.edit.proofs.finish.Statement.{statement}

@@ -4,7 +4,6 @@ use borrow.Author.Needs.{needs}
 use Rattle.study.specs.declared.Refusal.{Refusal}
 use Rattle.study.specs.Refusals.{listChecks}
 use Rattle.study.proofs.Orders.{or-first, or-second}
-use Rattle.edit.specs.Altering.{altered}
 use Rattle.edit.proofs.checks.both_lists.Statement.{statement}
 use Rattle.edit.proofs.checks.both_lists.Tie as tie
 

@@ -1,12 +1,10 @@
 -- `host::gathering::put` meets its contract: the stores of a whole record, one after the other. Assumes nothing.
-use mathlib.Core.Path.{_≡_, ap}
+use mathlib.Core.Path.{ap}
 use mathlib.Core.List.{List}
 use Prim.Native.Nat.{ℕ, _*_}
-use native.Mathlib.Omega.{arith}
 use borrow.Author.Needs.{needs}
 use Rattle.host.specs.Flattened.{recordOf, patchesTo, segmentsTo}
 use Rattle.host.specs.Gathered.{putAt}
-use Rattle.host.specs.declared.gathering.Flat.{Flat}
 use Rattle.host.proofs.Stores.{record-stores, patches-length}
 use Rattle.host.proofs.gathering.put.Statement.{statement}
 use Rattle.host.proofs.gathering.put.Tie as tie

@@ -10,7 +10,7 @@ use borrow.Author.Needs.{needs}
 use Rattle.study.specs.declared.StudyAnswer.{StudyAnswer}
 use Rattle.study.specs.Study.{refusalIn}
 use Rattle.answers.specs.StudyNumbers.{numbersOf}
-use Rattle.host.specs.Gathered.{used, handed}
+use Rattle.host.specs.Gathered.{handed}
 use Rattle.host.proofs.Handing.{used-most}
 use Rattle.host.proofs.StudyPromise.{StudyIs}
 use Rattle.host.proofs.records.study_of.Statement.{statement}
