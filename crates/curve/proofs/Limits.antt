@@ -6,11 +6,12 @@ use Prim.Native.Nat.{ℕ, _<_}
 use Rattle.laws.specs.Within.{within}
 use Rattle.laws.proofs.Tests.{both-left, both-right, both-true, kept, keeps}
 use Rattle.laws.proofs.Flats.{flat-ok, flat-good}
-use Rattle.curve.specs.CurveNumbers.{count, cover, soil, area, limitsGood, patchGood, patchesGood, PatchOk, PatchesOk}
+use Rattle.curve.specs.CurveNumbers.{patchesIn, cover, soil, area, patchWithin, patchGood, patchesGood}
+use Rattle.curve.specs.Needs.{PatchOk, PatchesOk}
 
 -- a patch that passes is within its limits
-pub patch-ok : (c s a : ℕ) → limitsGood c s a ≡ true → PatchOk c s a
-unfolding limitsGood
+pub patch-ok : (c s a : ℕ) → patchWithin c s a ≡ true → PatchOk c s a
+unfolding patchWithin
 patch-ok c s a e =
     let f = both-right (within 1 c 22) (within 1 s 4 && within 1 a 200000) e in
     let cs = kept 1 c 22 (both-left (within 1 c 22) (within 1 s 4 && within 1 a 200000) e) in
@@ -35,8 +36,8 @@ patches-ok p e =
     }
 
 -- and passes where it is
-pub patch-pass : (c s a : ℕ) → PatchOk c s a → limitsGood c s a ≡ true
-unfolding limitsGood
+pub patch-pass : (c s a : ℕ) → PatchOk c s a → patchWithin c s a ≡ true
+unfolding patchWithin
 patch-pass c s a ok =
     both-true (keeps 1 c 22 (ok .place .cover-least) (ok .place .cover-most))
     (both-true (keeps 1 s 4 (ok .place .soil-least) (ok .place .soil-most)) (keeps 1 a 200000 (ok .area-least) (ok .area-most)))

@@ -14,7 +14,8 @@ use Rattle.laws.specs.Sum.{sumTo}
 use Rattle.laws.proofs.Tests.{by-test}
 use Rattle.laws.proofs.Num.{below-or-not}
 use Rattle.laws.proofs.Sums.{sum-le, sum-same, sum-add, sum-times, sum-more, sum-most, sum-least}
-use Rattle.curve.specs.CurveNumbers.{classOf, count, cover, soil, area, number, totalArea, weightedAt, weighted, nearest, composite, areaIn, classArea, classesTo, PatchesOk, CurveOk, MeanOk}
+use Rattle.curve.specs.CurveNumbers.{classOf, patchesIn, cover, soil, area, number, totalArea, weightedAt, weighted, nearest, composite, areaIn, classArea, classesTo}
+use Rattle.curve.specs.Needs.{PatchesOk, CurveOk, MeanOk}
 use Rattle.curve.specs.declared.Classes.{Classes}
 use Rattle.curve.proofs.Class.{is-surface, is-district, is-lot, is-rural}
 use Rattle.curve.proofs.Table.{cover-ok}
@@ -34,10 +35,10 @@ nearest-most hi a b pos h = omega (arith, nearest-under hi a b pos h)
 
 module _ (p : List ℕ) (ok : PatchesOk p) where
   -- the sums over the first patches
-  pub area-to : (n : ℕ) → n ≤ count p → sumTo (area p) n ≤ n * 200000
+  pub area-to : (n : ℕ) → n ≤ patchesIn p → sumTo (area p) n ≤ n * 200000
   area-to n l = sum-most (area p) 200000 n (λ i k. ok .each i (omega arith) .area-most)
 
-  pub weighted-to : (n : ℕ) → n ≤ count p → sumTo (weightedAt p) n ≤ n * 19600000
+  pub weighted-to : (n : ℕ) → n ≤ patchesIn p → sumTo (weightedAt p) n ≤ n * 19600000
   weighted-to n l =
       sum-most (weightedAt p) 19600000 n
       (λ i k. mul-le-mul (cover-ok (cover p i) (soil p i) (ok .each i (omega arith) .place) .most) (ok .each i (omega arith) .area-most))
@@ -45,35 +46,35 @@ module _ (p : List ℕ) (ok : PatchesOk p) where
   -- some area
   pub area-some : 0 < totalArea p
   unfolding totalArea
-  area-some = omega (arith, sum-least (area p) 1 (count p) (λ i k. ok .each i k .area-least), ok .least)
+  area-some = omega (arith, sum-least (area p) 1 (patchesIn p) (λ i k. ok .each i k .area-least), ok .least)
 
   -- at most 8 patches of 200,000
   pub area-most : totalArea p ≤ 1600000
   unfolding totalArea
-  area-most = omega (arith, area-to (count p) (omega arith), ok .most)
+  area-most = omega (arith, area-to (patchesIn p) (omega arith), ok .most)
 
   -- the composite lies between any two numbers that all the patches' numbers lie between, so between the least and the greatest of them
-  pub composite-between : (lo hi : ℕ) → ((i : ℕ) → i < count p → (lo ≤ number p i) × (number p i ≤ hi)) → (lo ≤ composite p) × (composite p ≤ hi)
+  pub composite-between : (lo hi : ℕ) → ((i : ℕ) → i < patchesIn p → (lo ≤ number p i) × (number p i ≤ hi)) → (lo ≤ composite p) × (composite p ≤ hi)
   unfolding composite weighted totalArea
   composite-between lo hi each = (
     nearest-least lo (weighted p) (totalArea p) area-some
         (omega (
           arith,
-          sum-times lo (area p) (count p),
-          sum-le (λ i. lo * area p i) (weightedAt p) (count p) (λ i l. mul-le-mul-right (area p i) (each i l .0)),
+          sum-times lo (area p) (patchesIn p),
+          sum-le (λ i. lo * area p i) (weightedAt p) (patchesIn p) (λ i l. mul-le-mul-right (area p i) (each i l .0)),
         )),
     nearest-most hi (weighted p) (totalArea p) area-some
         (omega (
           arith,
-          sum-times hi (area p) (count p),
-          sum-le (weightedAt p) (λ i. hi * area p i) (count p) (λ i l. mul-le-mul-right (area p i) (each i l .1)),
+          sum-times hi (area p) (patchesIn p),
+          sum-le (weightedAt p) (λ i. hi * area p i) (patchesIn p) (λ i l. mul-le-mul-right (area p i) (each i l .1)),
         )),
   )
 
   -- so it is a curve number
   pub composite-ok : CurveOk (composite p)
   composite-ok =
-      let numbers : (i : ℕ) → i < count p → CurveOk (number p i) = λ i l. cover-ok (cover p i) (soil p i) (ok .each i l .place) in
+      let numbers : (i : ℕ) → i < patchesIn p → CurveOk (number p i) = λ i l. cover-ok (cover p i) (soil p i) (ok .each i l .place) in
       let r = composite-between 30 98 (λ i l. (numbers i l .least, numbers i l .most)) in
       record { least = r .0; most = r .1 }
 
@@ -87,23 +88,23 @@ once k a lo hi =
 
 module _ (p : List ℕ) (ok : PatchesOk p) where
   -- the class areas sum to the area
-  pub classes-sum : classArea p (count p) 1 + classArea p (count p) 2 + classArea p (count p) 3 + classArea p (count p) 4 ≡ totalArea p
+  pub classes-sum : classArea p (patchesIn p) 1 + classArea p (patchesIn p) 2 + classArea p (patchesIn p) 3 + classArea p (patchesIn p) 4 ≡ totalArea p
   unfolding totalArea
   classes-sum =
-      let n = count p in
+      let n = patchesIn p in
       let f = areaIn p in
       sym (sum-add (λ i. f 1 i + f 2 i + f 3 i) (f 4) n ∙ ap (λ (z : ℕ). z + sumTo (f 4) n) (sum-add (λ i. f 1 i + f 2 i) (f 3) n ∙ ap (λ (z : ℕ). z + sumTo (f 3) n) (sum-add (f 1) (f 2) n)))
       ∙ sum-same (λ i. f 1 i + f 2 i + f 3 i + f 4 i) (area p) n
       (λ i l. once (cover p i) (area p i) (ok .each i l .place .cover-least) (ok .each i l .place .cover-most))
 
   -- a class's area is at most the area of the patches
-  pub class-to : (class n : ℕ) → n ≤ count p → classArea p n class ≤ n * 200000
+  pub class-to : (class n : ℕ) → n ≤ patchesIn p → classArea p n class ≤ n * 200000
   class-to class n l =
       sum-most (areaIn p class) 200000 n
       (λ i k. by-test (λ (z : ℕ). z ≤ 200000) (eqb (classOf (cover p i)) class) (area p i) 0 (λ t. ok .each i (omega arith) .area-most) (λ t. omega arith))
 
   -- so one patch more fits
-  pub class-fits : (class i : ℕ) → i < count p → Fits w64 (classArea p i class + areaIn p class i)
+  pub class-fits : (class i : ℕ) → i < patchesIn p → Fits w64 (classArea p i class + areaIn p class i)
   class-fits class i l = omega (arith, sum-more (areaIn p class) i, class-to class (i + 1) (omega arith), ok .most)
 
 -- the class areas with one patch more

@@ -9,7 +9,8 @@ use Rattle.laws.specs.Scan.{scan}
 use Rattle.laws.specs.Within.{within}
 use Rattle.laws.proofs.Tests.{kept}
 use Rattle.laws.proofs.Scans.{scan-all}
-use Rattle.curve.specs.CurveNumbers.{coverTable, coverNumber, CoverOk, CurveOk}
+use Rattle.curve.specs.CurveNumbers.{coverTable, coverNumber}
+use Rattle.curve.specs.Needs.{CoverOk, CurveOk}
 
 -- place i of the table, four to a row
 abbrev good : ℕ → Bool

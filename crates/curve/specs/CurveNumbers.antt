@@ -1,14 +1,14 @@
 -- Document 01, 'Curve numbers': the cover table, the classes, and the composite curve number of a subarea's patches.
-use mathlib.Core.Path.{_≡_}
 use mathlib.Core.Bool.{Bool, _&&_}
 use mathlib.Core.List.{List, [], _∷_}
-use Prim.Native.Nat.{ℕ, _+_, _-_, _*_, _/_, _%_, _≤_, _<_}
+use Prim.Native.Nat.{ℕ, _+_, _-_, _*_, _/_}
 use lib.ListN.{length, getD}
 use lib.Dec.{leb, eqb}
 use Rattle.laws.specs.Pick.{pick}
 use Rattle.laws.specs.Flat.{flatGood}
 use Rattle.laws.specs.Sum.{sumTo}
 use Rattle.laws.specs.Within.{within}
+use Rattle.laws.specs.Limits.{mostArea}
 use Rattle.curve.specs.declared.Ground.{Ground}
 use Rattle.curve.specs.declared.Classes.{Classes}
 
@@ -50,17 +50,23 @@ classOf cover =
     pick (leb cover 0) 0 (pick (leb cover 8) 1 (pick (leb cover 10) 2 (pick (leb cover 16) 3 (pick (leb cover 22) 4 0))))
 
 -- a list of patches is flat, three numbers a patch: cover code, soil group, area in hundredths of an acre
-abbrev pub count : List ℕ → ℕ
-count p = length p / 3
+abbrev pub patchWidth : ℕ
+patchWidth = 3
+
+abbrev pub mostPatches : ℕ
+mostPatches = 8
+
+abbrev pub patchesIn : List ℕ → ℕ
+patchesIn p = length p / patchWidth
 
 abbrev pub cover : List ℕ → ℕ → ℕ
-cover p i = getD p (3 * i) 0
+cover p i = getD p (patchWidth * i) 0
 
 abbrev pub soil : List ℕ → ℕ → ℕ
-soil p i = getD p (3 * i + 1) 0
+soil p i = getD p (patchWidth * i + 1) 0
 
 abbrev pub area : List ℕ → ℕ → ℕ
-area p i = getD p (3 * i + 2) 0
+area p i = getD p (patchWidth * i + 2) 0
 
 -- the curve number of patch i
 abbrev pub number : List ℕ → ℕ → ℕ
@@ -68,14 +74,14 @@ number p i = coverNumber (cover p i) (soil p i)
 
 -- the area of all patches
 unfoldable pub totalArea : List ℕ → ℕ
-totalArea p = sumTo (area p) (count p)
+totalArea p = sumTo (area p) (patchesIn p)
 
 -- the number of patch i times its area
 abbrev pub weightedAt : List ℕ → ℕ → ℕ
 weightedAt p i = number p i * area p i
 
 unfoldable pub weighted : List ℕ → ℕ
-weighted p = sumTo (weightedAt p) (count p)
+weighted p = sumTo (weightedAt p) (patchesIn p)
 
 -- a / b to the nearest whole, halves up
 unfoldable pub nearest : ℕ → ℕ → ℕ
@@ -104,46 +110,15 @@ classesTo p n =
 
 -- the area in each class
 abbrev pub classesOf : List ℕ → Classes
-classesOf p = classesTo p (count p)
+classesOf p = classesTo p (patchesIn p)
 
 -- the limits of a patch
-unfoldable pub limitsGood : ℕ → ℕ → ℕ → Bool
-limitsGood cover soil area = within 1 cover 22 && (within 1 soil 4 && within 1 area 200000)
+unfoldable pub patchWithin : ℕ → ℕ → ℕ → Bool
+patchWithin cover soil area = within 1 cover 22 && (within 1 soil 4 && within 1 area mostArea)
 
 abbrev pub patchGood : List ℕ → ℕ → Bool
-patchGood p i = limitsGood (cover p i) (soil p i) (area p i)
+patchGood p i = patchWithin (cover p i) (soil p i) (area p i)
 
 -- 1 to 8 whole patches, each within its limits
 unfoldable pub patchesGood : List ℕ → Bool
-patchesGood p = flatGood 3 8 (patchGood p) p
-
--- a place of the cover table
-pub record CoverOk (cover soil : ℕ) : Type 0 where
-  pub cover-least : 1 ≤ cover
-  pub cover-most : cover ≤ 22
-  pub soil-least : 1 ≤ soil
-  pub soil-most : soil ≤ 4
-
--- a patch within its limits
-pub record PatchOk (cover soil area : ℕ) : Type 0 where
-  pub place : CoverOk cover soil
-  pub area-least : 1 ≤ area
-  pub area-most : area ≤ 200000
-
--- a list of patches within its limits
-pub record PatchesOk (p : List ℕ) : Type 0 where
-  pub triples : length p ≡ 3 * count p
-  pub least : 1 ≤ count p
-  pub most : count p ≤ 8
-  pub each : (i : ℕ) → i < count p → PatchOk (cover p i) (soil p i) (area p i)
-
--- a curve number that the cover table, or a mean over it, can give
-pub record CurveOk (c : ℕ) : Type 0 where
-  pub least : 30 ≤ c
-  pub most : c ≤ 98
-
--- what a mean is asked at: some area, and sums that leave room to double
-pub record MeanOk (weighted area : ℕ) : Type 0 where
-  pub some : 1 ≤ area
-  pub area-most : area ≤ 1000000000000
-  pub weighted-most : weighted ≤ 1000000000000
+patchesGood p = flatGood patchWidth mostPatches (patchGood p) p

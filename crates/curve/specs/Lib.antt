@@ -1,1 +1,2 @@
 pub mod CurveNumbers
+pub mod Needs

@@ -1,11 +1,18 @@
 // Curve numbers: the cover table, the classes, and the composite curve number of a subarea's patches.
 // A list of patches is flat, three numbers a patch: cover code, soil group, area in hundredths of an acre.
+use laws::limits;
 ghost use mathlib.Core.Path.{_≡_};
 ghost use Prim.Native.Nat.{_+_, _*_, _≤_, _<_};
 ghost use Rattle.laws.specs.Pick.{pick};
 ghost use Rattle.laws.specs.Scan.{scan};
 ghost use lib.Dec.{eqb};
-ghost use Rattle.curve.specs.CurveNumbers.{coverNumber, classOf, count, cover, soil, area, number, nearest, groundOf, classesTo, classesOf, limitsGood, patchGood, patchesGood, CoverOk, PatchesOk, MeanOk};
+ghost use Rattle.curve.specs.CurveNumbers.{coverNumber, classOf, patchesIn, cover, soil, area, number, nearest, groundOf, classesTo, classesOf, patchWithin, patchGood, patchesGood};
+ghost use Rattle.curve.specs.Needs.{CoverOk, PatchesOk, MeanOk};
+
+// The numbers of a patch in a list, and the patches that a subarea can have.
+pub const PATCH_WIDTH: usize = 3;
+
+pub const MOST_PATCHES: usize = 8;
 
 const COVER: [[u64; 4]; 22] = [
     [68, 79, 86, 89],
@@ -86,28 +93,28 @@ pub fn nearest(weighted: u64, area: u64) -> u64
 }
 
 fn cover_at(patches: &[u64], i: usize) -> u64
-    requires { ⌜ i < count (now patches) ⌝ }
+    requires { ⌜ i < patchesIn (now patches) ⌝ }
     ensures { λ r. ⌜ r ≡ cover (now (patches .entry)) i ⌝ }
 {
-    patches[3 * i]
+    patches[PATCH_WIDTH * i]
 }
 
 fn soil_at(patches: &[u64], i: usize) -> u64
-    requires { ⌜ i < count (now patches) ⌝ }
+    requires { ⌜ i < patchesIn (now patches) ⌝ }
     ensures { λ r. ⌜ r ≡ soil (now (patches .entry)) i ⌝ }
 {
-    patches[3 * i + 1]
+    patches[PATCH_WIDTH * i + 1]
 }
 
 fn area_at(patches: &[u64], i: usize) -> u64
-    requires { ⌜ i < count (now patches) ⌝ }
+    requires { ⌜ i < patchesIn (now patches) ⌝ }
     ensures { λ r. ⌜ r ≡ area (now (patches .entry)) i ⌝ }
 {
-    patches[3 * i + 2]
+    patches[PATCH_WIDTH * i + 2]
 }
 
 fn number_at(patches: &[u64], i: usize) -> u64
-    requires { ⌜ PatchesOk (now patches) × (i < count (now patches)) ⌝ }
+    requires { ⌜ PatchesOk (now patches) × (i < patchesIn (now patches)) ⌝ }
     ensures { λ r. ⌜ r ≡ number (now (patches .entry)) i ⌝ }
 {
     cover_number(cover_at(patches, i), soil_at(patches, i))
@@ -118,7 +125,7 @@ pub fn composite(patches: &[u64]) -> Ground
     requires { ⌜ PatchesOk (now patches) ⌝ }
     ensures { λ r. ⌜ r ≡ groundOf (now (patches .entry)) ⌝ }
 {
-    let n = patches.len() / 3;
+    let n = patches.len() / PATCH_WIDTH;
     let mut area = 0;
     let mut weighted = 0;
     let mut i = 0;
@@ -143,7 +150,7 @@ fn counted(class: u64, of: u64, area: u64) -> u64
 
 // The class areas of the first i patches, with patch i.
 fn with_patch(so: Classes, patches: &[u64], i: usize) -> Classes
-    requires { ⌜ PatchesOk (now patches) × ((i < count (now patches)) × (so ≡ classesTo (now patches) i)) ⌝ }
+    requires { ⌜ PatchesOk (now patches) × ((i < patchesIn (now patches)) × (so ≡ classesTo (now patches) i)) ⌝ }
     ensures { λ r. ⌜ r ≡ classesTo (now (patches .entry)) (i + 1) ⌝ }
 {
     let class = class_of(cover_at(patches, i));
@@ -161,7 +168,7 @@ pub fn class_areas(patches: &[u64]) -> Classes
     requires { ⌜ PatchesOk (now patches) ⌝ }
     ensures { λ r. ⌜ r ≡ classesOf (now (patches .entry)) ⌝ }
 {
-    let n = patches.len() / 3;
+    let n = patches.len() / PATCH_WIDTH;
     let mut so = Classes {
         surfaces: 0,
         districts: 0,
@@ -177,23 +184,23 @@ pub fn class_areas(patches: &[u64]) -> Classes
 }
 
 fn patch_good(patches: &[u64], i: usize) -> bool
-    requires { ⌜ i < count (now patches) ⌝ }
+    requires { ⌜ i < patchesIn (now patches) ⌝ }
     ensures { λ r. ⌜ r ≡ patchGood (now (patches .entry)) i ⌝ }
 {
     laws::both(
         laws::within(1, cover_at(patches, i), 22),
         laws::both(
             laws::within(1, soil_at(patches, i), 4),
-            laws::within(1, area_at(patches, i), 200000),
+            laws::within(1, area_at(patches, i), limits::MOST_AREA),
         ),
     )
 }
 
 // The first patch out of its limits, or the number of patches.
 fn first_bad(patches: &[u64]) -> usize
-    ensures { λ r. ⌜ r ≡ scan (patchGood (now (patches .entry))) (count (now (patches .entry))) 0 ⌝ }
+    ensures { λ r. ⌜ r ≡ scan (patchGood (now (patches .entry))) (patchesIn (now (patches .entry))) 0 ⌝ }
 {
-    let n = patches.len() / 3;
+    let n = patches.len() / PATCH_WIDTH;
     let mut i = 0;
     while i < n {
         if !patch_good(patches, i) {
@@ -208,9 +215,9 @@ fn first_bad(patches: &[u64]) -> usize
 pub fn patches_good(patches: &[u64]) -> bool
     ensures { λ r. ⌜ r ≡ patchesGood (now (patches .entry)) ⌝ }
 {
-    let n = patches.len() / 3;
+    let n = patches.len() / PATCH_WIDTH;
     laws::both(
-        patches.len() % 3 == 0,
-        laws::both(laws::within(1, n as u64, 8), first_bad(patches) == n),
+        patches.len() % PATCH_WIDTH == 0,
+        laws::both(laws::within(1, n as u64, MOST_PATCHES as u64), first_bad(patches) == n),
     )
 }

@@ -6,10 +6,12 @@ use Rattle.hydrograph.proofs.weight.Kinds as weight-kinds
 use Rattle.hydrograph.proofs.weight.Reads as weight-reads
 use Rattle.hydrograph.proofs.volume.Kinds as volume-kinds
 use Rattle.hydrograph.proofs.volume.Reads as volume-reads
-use Rattle.hydrograph.proofs.timing_good.Kinds as timing-good-kinds
-use Rattle.hydrograph.proofs.timing_good.Reads as timing-good-reads
-use Rattle.hydrograph.proofs.first_mistimed.Kinds as first-mistimed-kinds
-use Rattle.hydrograph.proofs.first_mistimed.Reads as first-mistimed-reads
+use Rattle.hydrograph.proofs.concentration_good.Kinds as concentration-good-kinds
+use Rattle.hydrograph.proofs.concentration_good.Reads as concentration-good-reads
+use Rattle.hydrograph.proofs.peak_good.Kinds as peak-good-kinds
+use Rattle.hydrograph.proofs.peak_good.Reads as peak-good-reads
+use Rattle.hydrograph.proofs.weights_good.Kinds as weights-good-kinds
+use Rattle.hydrograph.proofs.weights_good.Reads as weights-good-reads
 use Rattle.hydrograph.proofs.add_parts.Kinds as add-parts-kinds
 use Rattle.hydrograph.proofs.add_parts.Reads as add-parts-reads
 
@@ -19,11 +21,14 @@ weight-one κs a x y s t p q = same p q
 pub volume-one : OneAnswer volume-kinds.ps volume-kinds.r volume-reads.Post
 volume-one κs a x y s t p q = same p q
 
-pub timing-good-one : OneAnswer timing-good-kinds.ps timing-good-kinds.r timing-good-reads.Post
-timing-good-one κs a x y s t p q = same p q
+pub concentration-good-one : OneAnswer concentration-good-kinds.ps concentration-good-kinds.r concentration-good-reads.Post
+concentration-good-one κs a x y s t p q = same p q
 
-pub first-mistimed-one : OneAnswer first-mistimed-kinds.ps first-mistimed-kinds.r first-mistimed-reads.Post
-first-mistimed-one κs a x y s t p q = same p q
+pub peak-good-one : OneAnswer peak-good-kinds.ps peak-good-kinds.r peak-good-reads.Post
+peak-good-one κs a x y s t p q = same p q
+
+pub weights-good-one : OneAnswer weights-good-kinds.ps weights-good-kinds.r weights-good-reads.Post
+weights-good-one κs a x y s t p q = same p q
 
 pub add-parts-one : OneAnswerAnd add-parts-kinds.ps add-parts-kinds.r (λ κs s. now (s .1 .1 .1 .1 .1 .0)) add-parts-reads.Post
 add-parts-one κs a x y s t p q = (refl, same p q)

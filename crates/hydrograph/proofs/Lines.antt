@@ -12,7 +12,8 @@ use Rattle.laws.specs.Scan.{scan}
 use Rattle.laws.proofs.Num.{below-or-not}
 use Rattle.laws.proofs.Tests.{both-left, both-right}
 use Rattle.laws.proofs.Scans.{scan-all, scan-bad, scan-before, scan-most}
-use Rattle.hydrograph.specs.InflowRows.{time, ratio, lineAt, onLine, LineOk}
+use Rattle.hydrograph.specs.InflowRows.{time, ratio, lineAt, onLine}
+use Rattle.hydrograph.specs.Needs.{LineOk}
 
 -- a knot's time is above the one before, by 5 at most
 abbrev rises : ℕ → Bool

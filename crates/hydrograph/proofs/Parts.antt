@@ -10,8 +10,9 @@ use Rattle.laws.specs.Sum.{sumTo}
 use Rattle.laws.specs.Filled.{Filled}
 use Rattle.laws.proofs.Sums.{sum-same, sum-zeros}
 use Rattle.laws.proofs.Fill.{drop-one, drop-none, fill-turn, fill-end}
-use Rattle.curve.specs.CurveNumbers.{CurveOk}
-use Rattle.hydrograph.specs.InflowRows.{weight, weightAt, weights, totalWeight, product, runoffAt, term, released, volumeOf, volume, part, plus, TimingOk, RainOk, Below}
+use Rattle.curve.specs.Needs.{CurveOk}
+use Rattle.hydrograph.specs.InflowRows.{weight, weightAt, weights, totalWeight, runoffAt, term, depthReleased, volumeOf, volume, part}
+use Rattle.hydrograph.specs.Needs.{product, plus, TimingOk, RainOk, Below}
 use Rattle.hydrograph.proofs.Weights.{weight-most, in-time}
 use Rattle.hydrograph.proofs.Released.{runoff-most, volume-none}
 

@@ -9,10 +9,12 @@ use native.Mathlib.Numerals.{add-one}
 use native.Mathlib.Omega.{arith}
 use Rattle.laws.specs.Sum.{sumTo}
 use Rattle.laws.proofs.Sums.{sum-le, sum-same, sum-times, sum-zeros}
-use Rattle.curve.specs.CurveNumbers.{CurveOk}
-use Rattle.runoff.specs.RunoffDepth.{mostRain, depth}
+use Rattle.curve.specs.Needs.{CurveOk}
+use Rattle.laws.specs.Limits.{mostRain, mostArea}
+use Rattle.runoff.specs.RunoffDepth.{depth}
 use Rattle.runoff.proofs.Rising.{depth-rises, depth-most, depth-bound}
-use Rattle.hydrograph.specs.InflowRows.{weight, weightAt, weights, totalWeight, runoffAt, term, released, volumeOf, volume, part, TimingOk, RainOk, mostArea}
+use Rattle.hydrograph.specs.InflowRows.{weight, weightAt, weights, totalWeight, runoffAt, term, depthReleased, volumeOf, volume, part}
+use Rattle.hydrograph.specs.Needs.{TimingOk, RainOk}
 use Rattle.hydrograph.proofs.Weights.{total-some}
 
 -- a quotient never falls as its dividend rises
@@ -61,16 +63,16 @@ module _ (C : ℕ) (rain : List ℕ) (curve : CurveOk C) (ok : RainOk rain) wher
     some = total-some D Tp timing
 
     -- released never falls from row to row
-    pub released-rises : (a b : ℕ) → a ≤ b → released C Tp D rain a ≤ released C Tp D rain b
-    unfolding released
+    pub released-rises : (a b : ℕ) → a ≤ b → depthReleased C Tp D rain a ≤ depthReleased C Tp D rain b
+    unfolding depthReleased
     released-rises a b l =
         div-rises (sumAt a) (sumAt b) W some
         (sum-le (λ i. term C Tp D rain a (i + 1)) (λ i. term C Tp D rain b (i + 1)) (weights Tp D)
         (λ i h. mul-le-mul-left (weight Tp D (i + 1)) (runoff-rises (a + 1 - (i + 1)) (b + 1 - (i + 1)) (omega arith))))
 
     -- and is at most 30,000,000
-    pub released-most : (k : ℕ) → released C Tp D rain k ≤ 30000000
-    unfolding released totalWeight
+    pub released-most : (k : ℕ) → depthReleased C Tp D rain k ≤ 30000000
+    unfolding depthReleased totalWeight
     released-most k =
         div-le-of-le-mul W
         (omega (
@@ -80,8 +82,8 @@ module _ (C : ℕ) (rain : List ℕ) (curve : CurveOk C) (ok : RainOk rain) wher
         ))
 
     -- nothing is released before the first row
-    pub released-none : released C Tp D rain 0 ≡ 0
-    unfolding sumTo released runoffAt
+    pub released-none : depthReleased C Tp D rain 0 ≡ 0
+    unfolding sumTo depthReleased runoffAt
     released-none = rw (sum-zeros (λ i. term C Tp D rain 0 (i + 1)) 0 (weights Tp D) (omega arith) (λ i l h. nothing i)) (none-of W)
       where
         nothing : (i : ℕ) → term C Tp D rain 0 (i + 1) ≡ 0
@@ -91,8 +93,8 @@ module _ (C : ℕ) (rain : List ℕ) (curve : CurveOk C) (ok : RainOk rain) wher
         none-of w = zero-div w
 
     -- once the storm has passed, the last runoff depth itself is released: nothing of it is missing
-    pub released-all : (k : ℕ) → length rain - 1 + weights Tp D ≤ k + 1 → released C Tp D rain k ≡ depth C (getD rain (length rain - 1) 0)
-    unfolding released totalWeight
+    pub released-all : (k : ℕ) → length rain - 1 + weights Tp D ≤ k + 1 → depthReleased C Tp D rain k ≡ depth C (getD rain (length rain - 1) 0)
+    unfolding depthReleased totalWeight
     released-all k l =
         let last = depth C (getD rain (length rain - 1) 0) in
         let same : sumAt k ≡ last * W = sum-same (λ i. term C Tp D rain k (i + 1)) (λ i. last * weightAt Tp D i) (weights Tp D) (λ i h. all i h) ∙ sum-times last (weightAt Tp D) (weights Tp D) in

@@ -7,7 +7,8 @@ use native.Mathlib.Numerals.{add-one}
 use native.Mathlib.Omega.{arith}
 use Rattle.laws.specs.Sum.{sumTo}
 use Rattle.laws.proofs.Sums.{sum-most, sum-term}
-use Rattle.hydrograph.specs.InflowRows.{time, ratio, lineAt, onLine, weightOn, weight, weightAt, weights, totalWeight, LineOk, TimingOk}
+use Rattle.hydrograph.specs.InflowRows.{time, ratio, lineAt, onLine, weightOn, weight, weightAt, weights, totalWeight}
+use Rattle.hydrograph.specs.Needs.{LineOk, TimingOk}
 use Rattle.hydrograph.proofs.Lines.{OnLine, on-line, line-within, line-ok, on-line-most, on-line-least, time-first, time-second, time-peak, ratio-first, ratio-second, ratio-least}
 
 -- knots 1 to 10 are at 30 or more

@@ -1,15 +1,14 @@
 -- Document 01, 'Inflow rows': the shape, the weights, the depth and the volume released through a row, a subarea's parts.
-use mathlib.Core.Path.{_≡_}
 use mathlib.Core.Bool.{Bool}
 use mathlib.Core.List.{List, [], _∷_, map}
-use Prim.Native.Nat.{ℕ, zero, suc, _+_, _-_, _*_, _/_, _≤_, _<_, min}
+use Prim.Native.Nat.{ℕ, zero, suc, _+_, _-_, _*_, _/_, min}
 use lib.ListN.{length, getD}
-use lib.Dec.{leb, ltb, eqb}
-use Rattle.laws.specs.Pick.{pick}
+use lib.Dec.{leb, ltb}
 use Rattle.laws.specs.Scan.{scan}
 use Rattle.laws.specs.Sum.{sumTo}
-use Rattle.runoff.specs.RunoffDepth.{mostRain, depth}
-use Rattle.travel.specs.TravelTime.{timeToPeak, TimeOk}
+use Rattle.laws.specs.Limits.{mostTime, mostWeights}
+use Rattle.runoff.specs.RunoffDepth.{depth}
+use Rattle.travel.specs.TravelTime.{timeToPeak}
 
 pub record Knot : Type 0 where
   pub time : ℕ
@@ -76,17 +75,13 @@ unfoldable pub runoffAt : ℕ → List ℕ → ℕ → ℕ
 runoffAt C rain zero = 0
 runoffAt C rain (suc t) = depth C (getD rain (min (suc t) (length rain - 1)) 0)
 
--- number i of one list times the number of another that stands as many places before k
-abbrev pub product : List ℕ → List ℕ → ℕ → ℕ → ℕ
-product w q k i = getD w i 0 * getD q (k - i) 0
-
 -- weight j times Q at k + 1 - j
 abbrev pub term : ℕ → ℕ → ℕ → List ℕ → ℕ → ℕ → ℕ
 term C Tp D rain k j = weight Tp D j * runoffAt C rain (k + 1 - j)
 
 -- the depth released through row k: the sum over j, divided by W, down
-unfoldable pub released : ℕ → ℕ → ℕ → List ℕ → ℕ → ℕ
-released C Tp D rain k = sumFrom1 (term C Tp D rain k) (weights Tp D) / totalWeight Tp D
+unfoldable pub depthReleased : ℕ → ℕ → ℕ → List ℕ → ℕ → ℕ
+depthReleased C Tp D rain k = sumFrom1 (term C Tp D rain k) (weights Tp D) / totalWeight Tp D
 
 -- the volume of a depth on an area: 363 times both, divided by 10,000, down
 unfoldable pub volumeOf : ℕ → ℕ → ℕ
@@ -94,70 +89,20 @@ volumeOf A d = 363 * A * d / 10000
 
 -- the volume released through row k
 abbrev pub volume : ℕ → ℕ → ℕ → ℕ → List ℕ → ℕ → ℕ
-volume C A Tp D rain k = volumeOf A (released C Tp D rain k)
+volume C A Tp D rain k = volumeOf A (depthReleased C Tp D rain k)
 
 -- a subarea's part of row k: that less the same at k - 1
 unfoldable pub part : ℕ → ℕ → ℕ → ℕ → List ℕ → ℕ → ℕ
 part C A Tp D rain k = volume C A Tp D rain k - volume C A Tp D rain (k - 1)
 
--- a list of rows from row k on, each with f of its row added
-unfoldable pub plus : (ℕ → ℕ) → ℕ → List ℕ → List ℕ
-plus f k [] = []
-plus f k (v ∷ vs) = (v + f k) ∷ plus f (k + 1) vs
+-- refusal 9 of one subarea, as a test that passes: Tc is not above 36,000
+unfoldable pub concentrationGood : ℕ → Bool
+concentrationGood tc = leb tc mostTime
 
--- refusals 9, 10 and 11 of one subarea, as tests that pass: Tc is not above 36,000; D is not above Tp; 5 Tp is not above 512 D
-unfoldable pub timingGood : ℕ → ℕ → ℕ → Bool
-timingGood number D tc =
-    pick (eqb number 9) (leb tc 36000) (pick (eqb number 10) (leb D (timeToPeak D tc)) (leb (5 * timeToPeak D tc) (512 * D)))
+-- refusal 10: D is not above Tp
+unfoldable pub peakGood : ℕ → ℕ → Bool
+peakGood D tc = leb D (timeToPeak D tc)
 
--- the first subarea, from 0, whose Tc fails one of them, or their number
-abbrev pub firstMistimed : ℕ → ℕ → List ℕ → ℕ
-firstMistimed number D times = scan (λ i. timingGood number D (getD times i 0)) (length times) 0
-
--- no step is above this, in seconds
-abbrev pub mostStep : ℕ
-mostStep = 3600
-
--- no area is above this, in hundredths of an acre
-abbrev pub mostArea : ℕ
-mostArea = 200000
-
--- no runoff depth is above this, in millionths of an inch
-abbrev pub mostDepth : ℕ
-mostDepth = 30000000
-
--- what a line is asked at
-pub record LineOk (t a b y0 y1 : ℕ) : Type 0 where
-  pub low : a ≤ t
-  pub high : t ≤ b
-  pub apart : a < b
-  pub wide : b ≤ 20000000
-  pub from-most : y0 ≤ 1000
-  pub to-most : y1 ≤ 1000
-
--- a list of Tc, each one that segments can have
-pub record TimesOk (times : List ℕ) : Type 0 where
-  pub each : (i : ℕ) → i < length times → TimeOk (getD times i 0)
-
--- a step within its limits and a Tp that passes 10 and 11
-pub record TimingOk (D Tp : ℕ) : Type 0 where
-  pub step-least : 60 ≤ D
-  pub step-most : D ≤ mostStep
-  pub coarse : D ≤ Tp
-  pub short : 5 * Tp ≤ 512 * D
-
--- a rain within its limits: entry 0 is 0, none falls, none is above the most
-pub record RainOk (rain : List ℕ) : Type 0 where
-  pub least : 2 ≤ length rain
-  pub first : getD rain 0 0 ≡ 0
-  pub rising : (i : ℕ) → i + 1 < length rain → getD rain i 0 ≤ getD rain (i + 1) 0
-  pub limit : (i : ℕ) → i < length rain → getD rain i 0 ≤ mostRain
-
--- the first n numbers of a list are at most m
-pub record Below (l : List ℕ) (n m : ℕ) : Type 0 where
-  pub each : (i : ℕ) → i < n → getD l i 0 ≤ m
-
--- rows that have room for a part each
-pub record RoomOk (rows : List ℕ) : Type 0 where
-  pub most : length rows ≤ 2000
-  pub room : (i : ℕ) → i < length rows → getD rows i 0 ≤ 1000000000000000000
+-- refusal 11: 5 Tp is not above 512 D
+unfoldable pub weightsGood : ℕ → ℕ → Bool
+weightsGood D tc = leb (5 * timeToPeak D tc) (mostWeights * D)

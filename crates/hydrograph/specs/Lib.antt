@@ -1,1 +1,2 @@
 pub mod InflowRows
+pub mod Needs

@@ -1,14 +1,20 @@
 // Inflow rows: from a subarea's numbers and the rain to its parts of the rows' inflow volumes.
 // Units: time to peak and step in seconds, area in hundredths of an acre, rain in thousandths of an inch,
 // depths in millionths of an inch, volumes in thousandths of a cubic foot.
+use laws::limits;
 ghost use mathlib.Core.Path.{_≡_};
 ghost use Prim.Native.Nat.{_+_, _-_, _*_, _≤_, _<_, min};
 ghost use lib.ListN.{length};
 ghost use Rattle.laws.specs.Sum.{sumTo};
 ghost use Rattle.laws.specs.Filled.{Filled};
-ghost use Rattle.curve.specs.CurveNumbers.{CurveOk};
-ghost use Rattle.travel.specs.TravelTime.{TimeOk};
-ghost use Rattle.hydrograph.specs.InflowRows.{time, ratio, lineAt, onLine, weight, weightAt, weights, totalWeight, product, runoffAt, volumeOf, part, plus, LineOk, TimingOk, RainOk, Below, RoomOk, TimesOk, timingGood, firstMistimed, mostStep, mostArea, mostDepth};
+ghost use Rattle.curve.specs.Needs.{CurveOk};
+ghost use Rattle.travel.specs.Needs.{TimeOk};
+ghost use Rattle.hydrograph.specs.InflowRows.{time, ratio, lineAt, onLine, weight, weightAt, weights, totalWeight, runoffAt, volumeOf, part, concentrationGood, peakGood, weightsGood};
+ghost use Rattle.hydrograph.specs.Needs.{product, plus, LineOk, TimingOk, RainOk, Below, RoomOk, mostDepth};
+ghost use Rattle.laws.specs.Limits.{mostRows, mostStep, mostArea, mostWeights};
+
+// A depth for each row, and the one before the first.
+const ENTRIES: usize = limits::MOST_ROWS + 1;
 
 // The shape's ratios, in thousandths of the peak; narrow, since the table is laid on the stack where it is read.
 const RATIOS: [u16; 33] = [
@@ -122,8 +128,8 @@ fn wide(x: u32) -> u64
 }
 
 // Puts the weights into a list, the first at place 0, and gives their sum.
-fn fill_weights(peak: u64, step: u64, list: &mut [u32; 512]) -> u64
-    requires { ⌜ TimingOk step peak × (length (now list) ≡ 512) ⌝ }
+fn fill_weights(peak: u64, step: u64, list: &mut [u32; limits::MOST_WEIGHTS]) -> u64
+    requires { ⌜ TimingOk step peak × (length (now list) ≡ mostWeights) ⌝ }
     ensures { λ r. ⌜ (r ≡ totalWeight peak step) × Filled (weightAt peak step) (weights peak step) (now (list .exit)) ⌝ }
 {
     let n = 5 * peak / step;
@@ -152,8 +158,8 @@ fn next_depth(curve: u64, rain: &[u64], t: usize, last: u64) -> u64
 }
 
 // Puts Q at 0 to Q at the last row into a list.
-fn fill_depths(curve: u64, rain: &[u64], rows: usize, list: &mut [u32; 2001])
-    requires { ⌜ CurveOk curve × (RainOk (now rain) × ((rows ≤ 2000) × (length (now list) ≡ 2001))) ⌝ }
+fn fill_depths(curve: u64, rain: &[u64], rows: usize, list: &mut [u32; ENTRIES])
+    requires { ⌜ CurveOk curve × (RainOk (now rain) × ((rows ≤ mostRows) × (length (now list) ≡ mostRows + 1))) ⌝ }
     ensures { λ _. ⌜ Filled (runoffAt curve (now (rain .entry))) (rows + 1) (now (list .exit)) ⌝ }
 {
     let mut last = 0;
@@ -166,8 +172,8 @@ fn fill_depths(curve: u64, rain: &[u64], rows: usize, list: &mut [u32; 2001])
 }
 
 // The first n weights, each times the depth as many places before k, summed.
-fn dot(weights: &[u32; 512], depths: &[u32; 2001], k: usize, n: usize) -> u64
-    requires { ⌜ (n ≤ 512) × ((n ≤ k) × ((k ≤ 2000) × (Below (now weights) n 1000000 × Below (now depths) (k + 1) 30000000))) ⌝ }
+fn dot(weights: &[u32; limits::MOST_WEIGHTS], depths: &[u32; ENTRIES], k: usize, n: usize) -> u64
+    requires { ⌜ (n ≤ mostWeights) × ((n ≤ k) × ((k ≤ mostRows) × (Below (now weights) n 1000000 × Below (now depths) (k + 1) mostDepth))) ⌝ }
     ensures { λ r. ⌜ r ≡ sumTo (product (now (weights .entry)) (now (depths .entry)) k) n ⌝ }
 {
     let mut sum = 0;
@@ -198,8 +204,8 @@ pub fn add_parts(curve: u64, area: u64, peak: u64, step: u64, rain: &[u64], rows
     requires { ⌜ CurveOk curve × ((area ≤ mostArea) × (TimingOk step peak × (RainOk (now rain) × RoomOk (now rows)))) ⌝ }
     ensures { λ _. ⌜ now (rows .exit) ≡ plus (part curve area peak step (now (rain .entry))) 1 (now (rows .entry)) ⌝ }
 {
-    let mut weights = [0u32; 512];
-    let mut depths = [0u32; 2001];
+    let mut weights = [0u32; limits::MOST_WEIGHTS];
+    let mut depths = [0u32; ENTRIES];
     let total = fill_weights(peak, step, &mut weights);
     fill_depths(curve, rain, rows.len(), &mut depths);
     let count = (5 * peak / step) as usize;
@@ -214,33 +220,26 @@ pub fn add_parts(curve: u64, area: u64, peak: u64, step: u64, rain: &[u64], rows
     }
 }
 
-// Does a Tc pass refusal 9, 10 or 11 at a step? (11 for any other number.)
-pub fn timing_good(number: u64, step: u64, concentration: u64) -> bool
-    requires { ⌜ (step ≤ mostStep) × TimeOk concentration ⌝ }
-    ensures { λ r. ⌜ r ≡ timingGood number step concentration ⌝ }
+// Refusal 9 of one Tc, as a test that passes.
+pub fn concentration_good(concentration: u64) -> bool
+    ensures { λ r. ⌜ r ≡ concentrationGood concentration ⌝ }
 {
-    let peak = travel::time_to_peak(step, concentration);
-    if number == 9 {
-        return concentration <= 36000;
-    }
-    if number == 10 {
-        return step <= peak;
-    }
-    5 * peak <= 512 * step
+    concentration <= limits::MOST_TIME
 }
 
-// The first subarea, from 0, whose Tc fails refusal 9, 10 or 11, or the number of subareas.
-pub fn first_mistimed(number: u64, step: u64, times: &[u64]) -> usize
-    requires { ⌜ (step ≤ mostStep) × TimesOk (now times) ⌝ }
-    ensures { λ r. ⌜ r ≡ firstMistimed number step (now (times .entry)) ⌝ }
+// Refusal 10: the step is not above the time to peak.
+pub fn peak_good(step: u64, concentration: u64) -> bool
+    requires { ⌜ TimeOk concentration ⌝ }
+    ensures { λ r. ⌜ r ≡ peakGood step concentration ⌝ }
 {
-    let n = times.len();
-    let mut i = 0;
-    while i < n {
-        if !timing_good(number, step, times[i]) {
-            return i;
-        }
-        i += 1;
-    }
-    i
+    step <= travel::time_to_peak(step, concentration)
+}
+
+// Refusal 11: the shape has no more weights than there is room for.
+pub fn weights_good(step: u64, concentration: u64) -> bool
+    requires { ⌜ (step ≤ mostStep) × TimeOk concentration ⌝ }
+    ensures { λ r. ⌜ r ≡ weightsGood step concentration ⌝ }
+{
+    let peak = travel::time_to_peak(step, concentration);
+    5 * peak <= limits::MOST_WEIGHTS as u64 * step
 }

@@ -4,3 +4,4 @@ pub mod Sum
 pub mod Within
 pub mod Flat
 pub mod Filled
+pub mod Limits

@@ -1,4 +1,6 @@
 // What several crates share. The laws themselves stand in specs/ and proofs/; no engine code here.
+pub mod limits;
+
 ghost use mathlib.Core.Path.{_≡_};
 ghost use mathlib.Core.Bool.{_&&_};
 ghost use Rattle.laws.specs.Within.{within};

@@ -12,7 +12,8 @@ use borrow.Author.Tests.{leb-true, ltb-true, eqb-true, le-leb, lt-ltb, eq-eqb, n
 use Rattle.laws.specs.Within.{within}
 use Rattle.laws.proofs.Tests.{both-left, both-right, both-true, Kept, kept, keeps}
 use Rattle.laws.proofs.Scans.{scan-all, scan-whole}
-use Rattle.pond.specs.PondRows.{count, stage, storage, discharge, countGood, limitsGood, orderGood, rowGood, firstBad, heldGood, firstShort, HalfOk, TableOk, PondOk}
+use Rattle.pond.specs.PondRows.{rowsIn, stage, storage, discharge, countGood, rowWithin, orderGood, rowGood, firstBad, heldGood, firstShort}
+use Rattle.pond.specs.Needs.{HalfOk, TableOk, PondOk}
 
 -- the three of three tests that hold together
 record Three (a b c : Bool) : Type 0 where
@@ -25,30 +26,30 @@ threefold a b c e =
     let f = both-right a (b && c) e in
     record { one = both-left a (b && c) e; two = both-left b c f; three = both-right b c f }
 
-module _ (p : List ℕ) (some : countGood p ≡ true) (none : firstBad p ≡ count p) where
-  few : Kept 2 (count p) 64
+module _ (p : List ℕ) (some : countGood p ≡ true) (none : firstBad p ≡ rowsIn p) where
+  few : Kept 2 (rowsIn p) 64
   unfolding countGood
-  few = kept 2 (count p) 64 (both-right (eqb (length p % 3) 0) (within 2 (count p) 64) some)
+  few = kept 2 (rowsIn p) 64 (both-right (eqb (length p % 3) 0) (within 2 (rowsIn p) 64) some)
 
-  whole : length p ≡ 3 * count p
+  whole : length p ≡ 3 * rowsIn p
   unfolding countGood
-  whole = omega (arith, eqb-true (length p % 3) 0 (both-left (eqb (length p % 3) 0) (within 2 (count p) 64) some))
+  whole = omega (arith, eqb-true (length p % 3) 0 (both-left (eqb (length p % 3) 0) (within 2 (rowsIn p) 64) some))
 
-  good : (i : ℕ) → i < count p → rowGood p i ≡ true
-  good i l = scan-all (rowGood p) (count p) 0 (omega arith) i (omega arith) (omega arith)
+  good : (i : ℕ) → i < rowsIn p → rowGood p i ≡ true
+  good i l = scan-all (rowGood p) (rowsIn p) 0 (omega arith) i (omega arith) (omega arith)
 
-  limits : (i : ℕ) → i < count p → Three (leb (stage p i) 1000000) (leb (storage p i) 1000000000000) (leb (discharge p i) 10000000)
-  unfolding limitsGood
-  limits i l = threefold _ _ _ (both-left (limitsGood p i) (orderGood p i) (good i l))
+  limits : (i : ℕ) → i < rowsIn p → Three (leb (stage p i) 1000000) (leb (storage p i) 1000000000000) (leb (discharge p i) 10000000)
+  unfolding rowWithin
+  limits i l = threefold _ _ _ (both-left (rowWithin p i) (orderGood p i) (good i l))
 
-  order : (i : ℕ) → i < count p → orderGood p i ≡ true
-  order i l = both-right (limitsGood p i) (orderGood p i) (good i l)
+  order : (i : ℕ) → i < rowsIn p → orderGood p i ≡ true
+  order i l = both-right (rowWithin p i) (orderGood p i) (good i l)
 
   first : (eqb (storage p 0) 0 && eqb (discharge p 0) 0) ≡ true
   unfolding orderGood
   first = order 0 (omega (arith, few .low))
 
-  rising : (i : ℕ) → i + 1 < count p → Three (ltb (stage p i) (stage p (i + 1))) (ltb (storage p i) (storage p (i + 1))) (leb (discharge p i) (discharge p (i + 1)))
+  rising : (i : ℕ) → i + 1 < rowsIn p → Three (ltb (stage p i) (stage p (i + 1))) (ltb (storage p i) (storage p (i + 1))) (leb (discharge p i) (discharge p (i + 1)))
   unfolding orderGood
   rising i l = threefold _ _ _ (rw (ne-eqb (i + 1) 0 (omega arith), add-sub-cancel i 1) at (order (i + 1) l))
 
@@ -73,39 +74,39 @@ module _ {p : List ℕ} (ok : TableOk p) where
   -- and such a table passes: its count is good
   pub count-pass : countGood p ≡ true
   unfolding countGood
-  count-pass = both-true (eq-eqb (length p % 3) 0 (omega (arith, ok .triples))) (keeps 2 (count p) 64 (ok .least) (ok .most))
+  count-pass = both-true (eq-eqb (length p % 3) 0 (omega (arith, ok .triples))) (keeps 2 (rowsIn p) 64 (ok .least) (ok .most))
 
-  limits-pass : (i : ℕ) → i < count p → limitsGood p i ≡ true
-  unfolding limitsGood
+  limits-pass : (i : ℕ) → i < rowsIn p → rowWithin p i ≡ true
+  unfolding rowWithin
   limits-pass i l =
       both-true (le-leb (stage p i) 1000000 (ok .stages i l))
       (both-true (le-leb (storage p i) 1000000000000 (ok .storages i l)) (le-leb (discharge p i) 10000000 (ok .discharges i l)))
 
-  after-pass : (i : ℕ) → i + 1 < count p → orderGood p (i + 1) ≡ true
+  after-pass : (i : ℕ) → i + 1 < rowsIn p → orderGood p (i + 1) ≡ true
   unfolding orderGood
   after-pass i l =
       rw (ne-eqb (i + 1) 0 (omega arith), add-sub-cancel i 1)
       (both-true (lt-ltb (stage p i) (stage p (i + 1)) (ok .stage-up i l))
       (both-true (lt-ltb (storage p i) (storage p (i + 1)) (ok .storage-up i l)) (le-leb (discharge p i) (discharge p (i + 1)) (ok .discharge-up i l))))
 
-  order-pass : (i : ℕ) → i < count p → orderGood p i ≡ true
+  order-pass : (i : ℕ) → i < rowsIn p → orderGood p i ≡ true
   unfolding orderGood
   order-pass zero l = both-true (eq-eqb (storage p 0) 0 (ok .storage-first)) (eq-eqb (discharge p 0) 0 (ok .discharge-first))
   order-pass (suc i) l = subst (λ (k : ℕ). orderGood p k ≡ true) (add-one i) (after-pass i (omega arith))
 
   -- and none of its rows is bad
-  pub rows-pass : firstBad p ≡ count p
-  rows-pass = scan-whole (rowGood p) (count p) (λ i l. both-true (limits-pass i l) (order-pass i l))
+  pub rows-pass : firstBad p ≡ rowsIn p
+  rows-pass = scan-whole (rowGood p) (rowsIn p) (λ i l. both-true (limits-pass i l) (order-pass i l))
 
 -- a table that passes the test of refusal 13 at a half step is a pond within its limits
-pub pond-ok : {h : ℕ} {p : List ℕ} → HalfOk h → TableOk p → firstShort h p ≡ count p → PondOk h p
+pub pond-ok : {h : ℕ} {p : List ℕ} → HalfOk h → TableOk p → firstShort h p ≡ rowsIn p → PondOk h p
 pond-ok {h} {p} half table none =
     record {
       half = half;
       table = table;
-      held = λ i l. leb-true _ _ (scan-all (heldGood h p) (count p) 0 (omega arith) i (omega arith) (omega arith));
+      held = λ i l. leb-true _ _ (scan-all (heldGood h p) (rowsIn p) 0 (omega arith) i (omega arith) (omega arith));
     }
 
 -- and such a pond passes
-pub held-pass : {h : ℕ} {p : List ℕ} → PondOk h p → firstShort h p ≡ count p
-held-pass {h} {p} ok = scan-whole (heldGood h p) (count p) (λ i l. le-leb (h * discharge p i) (storage p i) (ok .held i l))
+pub held-pass : {h : ℕ} {p : List ℕ} → PondOk h p → firstShort h p ≡ rowsIn p
+held-pass {h} {p} ok = scan-whole (heldGood h p) (rowsIn p) (λ i l. le-leb (h * discharge p i) (storage p i) (ok .held i l))

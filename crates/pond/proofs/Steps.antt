@@ -4,7 +4,8 @@ use mathlib.Core.List.{List}
 use Prim.Native.Nat.{ℕ, _+_, _*_, _≤_}
 use native.Mathlib.Omega.{arith}
 use Rattle.pond.specs.declared.State.{State}
-use Rattle.pond.specs.PondRows.{lastSum, dischargeAt, empty, arrived, settled, next, PondOk, StateOk, ArriveOk}
+use Rattle.pond.specs.PondRows.{lastSum, dischargeAt, empty, arrived, settled, next}
+use Rattle.pond.specs.Needs.{PondOk, StateOk, ArriveOk}
 use Rattle.pond.proofs.Sums.{last-most, discharge-held}
 
 -- the empty pond is a good state

@@ -10,7 +10,8 @@ use borrow.Author.Tests.{ltb-true, ltb-false, lt-ltb, le-ltb}
 use lib.Dec.{ltb}
 use Rattle.laws.proofs.Num.{below-or-not}
 use Rattle.laws.proofs.Scans.{scan-most, scan-bad, scan-before, scan-is}
-use Rattle.pond.specs.PondRows.{count, stage, discharge, sumAt, lastSum, lower, lineOn, dischargeAt, stageAt, PondOk, LineOk}
+use Rattle.pond.specs.PondRows.{rowsIn, stage, discharge, sumAt, lastSum, lower, lineOn, dischargeAt, stageAt}
+use Rattle.pond.specs.Needs.{PondOk, BetweenOk}
 use Rattle.pond.proofs.Lines.{between-least, between-most, between-up, under-line}
 use Rattle.pond.proofs.Halves.{rise, Stays}
 
@@ -20,28 +21,28 @@ nextBelow h p x i = ltb (sumAt h p (i + 1)) x
 
 -- row i and the next are the two rows around x
 pub record Around (h : ℕ) (p : List ℕ) (x i : ℕ) : Type 0 where
-  pub inside : i + 1 < count p
+  pub inside : i + 1 < rowsIn p
   pub low : sumAt h p i ≤ x
   pub high : x ≤ sumAt h p (i + 1)
 
 module _ {h : ℕ} {p : List ℕ} (ok : PondOk h p) where
   -- the X rise strictly
-  pub sum-up : (i : ℕ) → i + 1 < count p → sumAt h p i < sumAt h p (i + 1)
+  pub sum-up : (i : ℕ) → i + 1 < rowsIn p → sumAt h p i < sumAt h p (i + 1)
   unfolding sumAt
   sum-up i l = omega (arith, ok .table .storage-up i l, mul-le-mul-left h (ok .table .discharge-up i l))
 
   -- so a later X is no less
-  pub sum-rise : (a b : ℕ) → a ≤ b → b < count p → sumAt h p a ≤ sumAt h p b
-  sum-rise = rise (sumAt h p) (count p) (λ i l. omega (arith, sum-up i l))
+  pub sum-rise : (a b : ℕ) → a ≤ b → b < rowsIn p → sumAt h p a ≤ sumAt h p b
+  sum-rise = rise (sumAt h p) (rowsIn p) (λ i l. omega (arith, sum-up i l))
 
   -- an X is at most the largest storage with 1800 times the largest discharge
-  pub sum-most : (i : ℕ) → i < count p → sumAt h p i ≤ 1018000000000
+  pub sum-most : (i : ℕ) → i < rowsIn p → sumAt h p i ≤ 1018000000000
   unfolding sumAt
   sum-most i l = omega (arith, ok .table .storages i l, mul-le-mul (ok .half .most) (ok .table .discharges i l))
 
   -- and so is the last
   pub last-most : lastSum h p ≤ 1018000000000
-  last-most = sum-most (count p - 1) (omega (arith, ok .table .least))
+  last-most = sum-most (rowsIn p - 1) (omega (arith, ok .table .least))
 
   -- the first X is 0
   pub sum-first : sumAt h p 0 ≡ 0
@@ -49,35 +50,35 @@ module _ {h : ℕ} {p : List ℕ} (ok : PondOk h p) where
   sum-first = omega (arith, ok .table .storage-first, ap (λ (z : ℕ). h * z) (ok .table .discharge-first))
 
   -- twice h times a row's discharge is at most its X
-  pub twice-held : (i : ℕ) → i < count p → 2 * h * discharge p i ≤ sumAt h p i
+  pub twice-held : (i : ℕ) → i < rowsIn p → 2 * h * discharge p i ≤ sumAt h p i
   unfolding sumAt
   twice-held i l = omega (arith, ok .held i l)
 
   -- a row whose next X is not below x is followed by such rows only
-  pub lower-stays : (x : ℕ) → Stays (nextBelow h p x) (count p - 2)
+  pub lower-stays : (x : ℕ) → Stays (nextBelow h p x) (rowsIn p - 2)
   lower-stays x a b le l f =
       le-ltb (sumAt h p (b + 1)) x (le-trans (ltb-false (sumAt h p (a + 1)) x f) (sum-rise (a + 1) (b + 1) (omega arith) (omega arith)))
 
   -- the lower row has one after it
-  pub lower-inside : (x : ℕ) → lower h p x + 1 < count p
+  pub lower-inside : (x : ℕ) → lower h p x + 1 < rowsIn p
   unfolding lower
-  lower-inside x = omega (arith, scan-most (nextBelow h p x) (count p - 2) 0, ok .table .least)
+  lower-inside x = omega (arith, scan-most (nextBelow h p x) (rowsIn p - 2) 0, ok .table .least)
 
   -- each row up to the lower one, but the first, has its X below x
   pub lower-before : (x k : ℕ) → k < lower h p x → sumAt h p (k + 1) < x
   unfolding lower
-  lower-before x k l = ltb-true _ _ (scan-before (nextBelow h p x) (count p - 2) 0 k (omega arith) l)
+  lower-before x k l = ltb-true _ _ (scan-before (nextBelow h p x) (rowsIn p - 2) 0 k (omega arith) l)
 
   -- but for the last line, the row after the lower one is not below x
-  pub lower-here : (x : ℕ) → lower h p x + 2 < count p → x ≤ sumAt h p (lower h p x + 1)
+  pub lower-here : (x : ℕ) → lower h p x + 2 < rowsIn p → x ≤ sumAt h p (lower h p x + 1)
   unfolding lower
-  lower-here x l = ltb-false _ _ (scan-bad (nextBelow h p x) (count p - 2) 0 (omega arith))
+  lower-here x l = ltb-false _ _ (scan-bad (nextBelow h p x) (rowsIn p - 2) 0 (omega arith))
 
   -- and the lower row is the one row of which all that holds
-  pub lower-only : (x i : ℕ) → i + 1 < count p → ((k : ℕ) → k < i → sumAt h p (k + 1) < x) → (i + 2 < count p → x ≤ sumAt h p (i + 1)) → i ≡ lower h p x
+  pub lower-only : (x i : ℕ) → i + 1 < rowsIn p → ((k : ℕ) → k < i → sumAt h p (k + 1) < x) → (i + 2 < rowsIn p → x ≤ sumAt h p (i + 1)) → i ≡ lower h p x
   unfolding lower
   lower-only x i l before here =
-      sym (scan-is (nextBelow h p x) (count p - 2) i (omega arith) (λ k b. lt-ltb _ _ (before k b)) (λ b. le-ltb _ _ (here (omega arith))))
+      sym (scan-is (nextBelow h p x) (rowsIn p - 2) i (omega arith) (λ k b. lt-ltb _ _ (before k b)) (λ b. le-ltb _ _ (here (omega arith))))
 
   module _ (x : ℕ) (top : x ≤ lastSum h p) where
     from : sumAt h p (lower h p x) ≤ x
@@ -92,9 +93,9 @@ module _ {h : ℕ} {p : List ℕ} (ok : PondOk h p) where
     upto =
         let i = lower h p x in
         ⊎-elim
-        (λ (l : i + 2 < count p). lower-here x l)
-        (λ (l : count p ≤ i + 2). let e : count p - 1 ≡ i + 1 = omega (arith, lower-inside x) in subst (λ (k : ℕ). x ≤ sumAt h p k) e top)
-        (below-or-not (i + 2) (count p))
+        (λ (l : i + 2 < rowsIn p). lower-here x l)
+        (λ (l : rowsIn p ≤ i + 2). let e : rowsIn p - 1 ≡ i + 1 = omega (arith, lower-inside x) in subst (λ (k : ℕ). x ≤ sumAt h p k) e top)
+        (below-or-not (i + 2) (rowsIn p))
 
     -- the lower row and the next are the two rows around x
     pub around : Around h p x (lower h p x)
@@ -111,7 +112,7 @@ module _ {h : ℕ} {p : List ℕ} (ok : PondOk h p) where
       (λ l. l)
       (below-or-not (lower h p b) (lower h p a))
 
-  module _ (y : ℕ → ℕ) (up : (i : ℕ) → i + 1 < count p → y i ≤ y (i + 1)) where
+  module _ (y : ℕ → ℕ) (up : (i : ℕ) → i + 1 < rowsIn p → y i ≤ y (i + 1)) where
     -- a column that never falls is on its line at x no higher than at the row after the lower one
     pub line-most : (x : ℕ) → x ≤ lastSum h p → lineOn h p x y (lower h p x) ≤ y (lower h p x + 1)
     line-most x top =
@@ -119,9 +120,9 @@ module _ {h : ℕ} {p : List ℕ} (ok : PondOk h p) where
         between-most x (sumAt h p i) (sumAt h p (i + 1)) (y i) (y (i + 1)) (around x top .high) (up i (lower-inside x))
 
     -- nor than at the last row
-    pub line-last : (x : ℕ) → x ≤ lastSum h p → lineOn h p x y (lower h p x) ≤ y (count p - 1)
+    pub line-last : (x : ℕ) → x ≤ lastSum h p → lineOn h p x y (lower h p x) ≤ y (rowsIn p - 1)
     line-last x top =
-        le-trans (line-most x top) (rise y (count p) up (lower h p x + 1) (count p - 1) (omega (arith, lower-inside x)) (omega (arith, lower-inside x)))
+        le-trans (line-most x top) (rise y (rowsIn p) up (lower h p x + 1) (rowsIn p - 1) (omega (arith, lower-inside x)) (omega (arith, lower-inside x)))
 
     -- and its line never falls as x rises
     pub line-rise : (a b : ℕ) → a ≤ b → b ≤ lastSum h p → lineOn h p a y (lower h p a) ≤ lineOn h p b y (lower h p b)
@@ -131,11 +132,11 @@ module _ {h : ℕ} {p : List ℕ} (ok : PondOk h p) where
         ⊎-elim
         (λ (e : i ≡ j). subst (λ (k : ℕ). lineOn h p a y i ≤ lineOn h p b y k) e (between-up a b (sumAt h p i) (sumAt h p (i + 1)) (y i) (y (i + 1)) le (sum-up i (lower-inside a))))
         (λ (l : i < j). le-trans (line-most a (le-trans le top))
-        (le-trans (rise y (count p) up (i + 1) j (omega arith) (omega (arith, lower-inside b))) (between-least b (sumAt h p j) (sumAt h p (j + 1)) (y j) (y (j + 1)))))
+        (le-trans (rise y (rowsIn p) up (i + 1) j (omega arith) (omega (arith, lower-inside b))) (between-least b (sumAt h p j) (sumAt h p (j + 1)) (y j) (y (j + 1)))))
         (eq-or-lt-of-le (lower-rise a b le))
 
     -- the line between two rows around x is one that `line` takes, where the column is at most 10^7
-    pub line-ok : (x i : ℕ) → Around h p x i → y (i + 1) ≤ 10000000 → LineOk x (sumAt h p i) (sumAt h p (i + 1)) (y i) (y (i + 1))
+    pub line-ok : (x i : ℕ) → Around h p x i → y (i + 1) ≤ 10000000 → BetweenOk x (sumAt h p i) (sumAt h p (i + 1)) (y i) (y (i + 1))
     line-ok x i a most =
         record {
           low = a .low;
@@ -158,22 +159,22 @@ module _ {h : ℕ} {p : List ℕ} (ok : PondOk h p) where
 
   module _ (x : ℕ) (top : x ≤ lastSum h p) where
     -- the discharge is at most the last row's
-    pub discharge-last-most : dischargeAt h p x ≤ discharge p (count p - 1)
+    pub discharge-last-most : dischargeAt h p x ≤ discharge p (rowsIn p - 1)
     unfolding dischargeAt
     discharge-last-most = line-last (discharge p) (ok .table .discharge-up) x top
 
     -- and so within its limit
     pub discharge-most : dischargeAt h p x ≤ 10000000
-    discharge-most = le-trans discharge-last-most (ok .table .discharges (count p - 1) (omega (arith, ok .table .least)))
+    discharge-most = le-trans discharge-last-most (ok .table .discharges (rowsIn p - 1) (omega (arith, ok .table .least)))
 
     -- the stage is at most the last row's
-    pub stage-last-most : stageAt h p x ≤ stage p (count p - 1)
+    pub stage-last-most : stageAt h p x ≤ stage p (rowsIn p - 1)
     unfolding stageAt
     stage-last-most = line-last (stage p) (λ i l. omega (arith, ok .table .stage-up i l)) x top
 
     -- and so within its limit
     pub stage-most : stageAt h p x ≤ 1000000
-    stage-most = le-trans stage-last-most (ok .table .stages (count p - 1) (omega (arith, ok .table .least)))
+    stage-most = le-trans stage-last-most (ok .table .stages (rowsIn p - 1) (omega (arith, ok .table .least)))
 
     -- half a step at the discharge, twice, releases at most x
     pub discharge-held : 2 * h * dischargeAt h p x ≤ x

@@ -1,1 +1,2 @@
 pub mod PondRows
+pub mod Needs

@@ -1,8 +1,7 @@
 -- Document 01, 'Pond rows' and refusals 12 and 13: the pond's table, its X_i, the straight lines between them, and one pond step.
-use mathlib.Core.Path.{_≡_}
 use mathlib.Core.Bool.{Bool, _&&_}
 use mathlib.Core.List.{List}
-use Prim.Native.Nat.{ℕ, _+_, _-_, _*_, _/_, _%_, _≤_, _<_}
+use Prim.Native.Nat.{ℕ, _+_, _-_, _*_, _/_, _%_}
 use lib.ListN.{length, getD}
 use lib.Dec.{leb, ltb, eqb}
 use Rattle.laws.specs.Pick.{pick}
@@ -11,17 +10,23 @@ use Rattle.laws.specs.Within.{within}
 use Rattle.pond.specs.declared.State.{State}
 
 -- a pond is flat, three numbers a row: stage in thousandths of a ft, storage in thousandths of a cubic foot, discharge in thousandths of a cfs; rows count from 0 here
-abbrev pub count : List ℕ → ℕ
-count p = length p / 3
+abbrev pub rowWidth : ℕ
+rowWidth = 3
+
+abbrev pub mostPondRows : ℕ
+mostPondRows = 64
+
+abbrev pub rowsIn : List ℕ → ℕ
+rowsIn p = length p / rowWidth
 
 abbrev pub stage : List ℕ → ℕ → ℕ
-stage p i = getD p (3 * i) 0
+stage p i = getD p (rowWidth * i) 0
 
 abbrev pub storage : List ℕ → ℕ → ℕ
-storage p i = getD p (3 * i + 1) 0
+storage p i = getD p (rowWidth * i + 1) 0
 
 abbrev pub discharge : List ℕ → ℕ → ℕ
-discharge p i = getD p (3 * i + 2) 0
+discharge p i = getD p (rowWidth * i + 2) 0
 
 -- X_i = storage + h times discharge, h half the step
 unfoldable pub sumAt : ℕ → List ℕ → ℕ → ℕ
@@ -29,15 +34,15 @@ sumAt h p i = storage p i + h * discharge p i
 
 -- the last X_i
 abbrev pub lastSum : ℕ → List ℕ → ℕ
-lastSum h p = sumAt h p (count p - 1)
+lastSum h p = sumAt h p (rowsIn p - 1)
 
 -- the last discharge
 abbrev pub lastDischarge : List ℕ → ℕ
-lastDischarge p = discharge p (count p - 1)
+lastDischarge p = discharge p (rowsIn p - 1)
 
 -- the lower of the two rows around x: the first, but for the last row, whose next X_i is not below x
 unfoldable pub lower : ℕ → List ℕ → ℕ → ℕ
-lower h p x = scan (λ i. ltb (sumAt h p (i + 1)) x) (count p - 2) 0
+lower h p x = scan (λ i. ltb (sumAt h p (i + 1)) x) (rowsIn p - 2) 0
 
 -- the straight line through (x0, y0) and (x1, y1) at x, down
 unfoldable pub between : ℕ → ℕ → ℕ → ℕ → ℕ → ℕ
@@ -72,11 +77,11 @@ next h p st v = settled h p (arrived h st v)
 
 -- refusal 12, place 0: whole rows, 2 to 64 of them
 unfoldable pub countGood : List ℕ → Bool
-countGood p = eqb (length p % 3) 0 && within 2 (count p) 64
+countGood p = eqb (length p % rowWidth) 0 && within 2 (rowsIn p) mostPondRows
 
 -- refusal 12: row i within its limits
-unfoldable pub limitsGood : List ℕ → ℕ → Bool
-limitsGood p i = leb (stage p i) 1000000 && (leb (storage p i) 1000000000000 && leb (discharge p i) 10000000)
+unfoldable pub rowWithin : List ℕ → ℕ → Bool
+rowWithin p i = leb (stage p i) 1000000 && (leb (storage p i) 1000000000000 && leb (discharge p i) 10000000)
 
 -- row i in order after row i - 1: stage and storage rise strictly, discharge never falls; the first storage and discharge are 0
 unfoldable pub orderGood : List ℕ → ℕ → Bool
@@ -86,11 +91,11 @@ orderGood p i =
     (ltb (stage p (i - 1)) (stage p i) && (ltb (storage p (i - 1)) (storage p i) && leb (discharge p (i - 1)) (discharge p i)))
 
 abbrev pub rowGood : List ℕ → ℕ → Bool
-rowGood p i = limitsGood p i && orderGood p i
+rowGood p i = rowWithin p i && orderGood p i
 
 -- the first bad row, or the number of rows
 abbrev pub firstBad : List ℕ → ℕ
-firstBad p = scan (rowGood p) (count p) 0
+firstBad p = scan (rowGood p) (rowsIn p) 0
 
 -- refusal 13: row i has no less storage than h times its discharge
 abbrev pub heldGood : ℕ → List ℕ → ℕ → Bool
@@ -98,49 +103,4 @@ heldGood h p i = leb (h * discharge p i) (storage p i)
 
 -- the first row that has less, or the number of rows
 abbrev pub firstShort : ℕ → List ℕ → ℕ
-firstShort h p = scan (heldGood h p) (count p) 0
-
--- h within the limits of a step
-pub record HalfOk (h : ℕ) : Type 0 where
-  pub least : 30 ≤ h
-  pub most : h ≤ 1800
-
--- what refusal 12 leaves: whole rows, each within its limits and in order
-pub record TableOk (p : List ℕ) : Type 0 where
-  pub triples : length p ≡ 3 * count p
-  pub least : 2 ≤ count p
-  pub most : count p ≤ 64
-  pub stages : (i : ℕ) → i < count p → stage p i ≤ 1000000
-  pub storages : (i : ℕ) → i < count p → storage p i ≤ 1000000000000
-  pub discharges : (i : ℕ) → i < count p → discharge p i ≤ 10000000
-  pub stage-up : (i : ℕ) → i + 1 < count p → stage p i < stage p (i + 1)
-  pub storage-up : (i : ℕ) → i + 1 < count p → storage p i < storage p (i + 1)
-  pub discharge-up : (i : ℕ) → i + 1 < count p → discharge p i ≤ discharge p (i + 1)
-  pub storage-first : storage p 0 ≡ 0
-  pub discharge-first : discharge p 0 ≡ 0
-
--- what refusals 12 and 13 leave at a half step
-pub record PondOk (h : ℕ) (p : List ℕ) : Type 0 where
-  pub half : HalfOk h
-  pub table : TableOk p
-  pub held : (i : ℕ) → i < count p → h * discharge p i ≤ storage p i
-
--- a good state: h times the outflow is at most the storage, their sum at most the last X_i
-pub record StateOk (h : ℕ) (p : List ℕ) (st : State) : Type 0 where
-  pub covers : h * st .outflow ≤ st .storage
-  pub within-last : st .storage + h * st .outflow ≤ lastSum h p
-
--- what `line` is asked at
-pub record LineOk (x x0 x1 y0 y1 : ℕ) : Type 0 where
-  pub low : x0 ≤ x
-  pub high : x ≤ x1
-  pub apart : x0 < x1
-  pub rising : y0 ≤ y1
-  pub wide : x1 ≤ 1018000000000
-  pub tall : y1 ≤ 10000000
-
--- what `arrive` is asked at: a state that covers half its outflow, and a sum that does not wrap
-pub record ArriveOk (h : ℕ) (st : State) (v : ℕ) : Type 0 where
-  pub covers : h * st .outflow ≤ st .storage
-  pub storage-most : st .storage ≤ 1018000000000
-  pub inflow-most : v ≤ 1000000000000000000
+firstShort h p = scan (heldGood h p) (rowsIn p) 0

@@ -1,7 +1,13 @@
 // The pond's table, three numbers a row (stage, storage, discharge), and one pond step.
 ghost use mathlib.Core.Path.{_≡_};
 ghost use Prim.Native.Nat.{_≤_, _<_};
-ghost use Rattle.pond.specs.PondRows.{count, stage, storage, discharge, sumAt, lastSum, lastDischarge, lower, between, dischargeAt, stageAt, arrived, settled, countGood, limitsGood, orderGood, rowGood, firstBad, heldGood, firstShort, HalfOk, TableOk, PondOk, LineOk, ArriveOk};
+ghost use Rattle.pond.specs.PondRows.{rowsIn, stage, storage, discharge, sumAt, lastSum, lastDischarge, lower, between, dischargeAt, stageAt, arrived, settled, countGood, rowWithin, orderGood, rowGood, firstBad, heldGood, firstShort};
+ghost use Rattle.pond.specs.Needs.{HalfOk, TableOk, PondOk, BetweenOk, ArriveOk};
+
+// The numbers of a row of the table, and the rows that it can have.
+pub const ROW_WIDTH: usize = 3;
+
+pub const MOST_POND_ROWS: usize = 64;
 
 // What a row leaves in the pond: storage in thousandths of a cubic foot, outflow in thousandths of a cfs.
 pub struct State {
@@ -10,29 +16,29 @@ pub struct State {
 }
 
 fn stage_of(pond: &[u64], i: usize) -> u64
-    requires { ⌜ i < count (now pond) ⌝ }
+    requires { ⌜ i < rowsIn (now pond) ⌝ }
     ensures { λ r. ⌜ r ≡ stage (now (pond .entry)) i ⌝ }
 {
-    pond[3 * i]
+    pond[ROW_WIDTH * i]
 }
 
 fn storage_of(pond: &[u64], i: usize) -> u64
-    requires { ⌜ i < count (now pond) ⌝ }
+    requires { ⌜ i < rowsIn (now pond) ⌝ }
     ensures { λ r. ⌜ r ≡ storage (now (pond .entry)) i ⌝ }
 {
-    pond[3 * i + 1]
+    pond[ROW_WIDTH * i + 1]
 }
 
 fn discharge_of(pond: &[u64], i: usize) -> u64
-    requires { ⌜ i < count (now pond) ⌝ }
+    requires { ⌜ i < rowsIn (now pond) ⌝ }
     ensures { λ r. ⌜ r ≡ discharge (now (pond .entry)) i ⌝ }
 {
-    pond[3 * i + 2]
+    pond[ROW_WIDTH * i + 2]
 }
 
 // X of row i.
 pub fn sum_at(pond: &[u64], half: u64, i: usize) -> u64
-    requires { ⌜ PondOk half (now pond) × (i < count (now pond)) ⌝ }
+    requires { ⌜ PondOk half (now pond) × (i < rowsIn (now pond)) ⌝ }
     ensures { λ r. ⌜ r ≡ sumAt half (now (pond .entry)) i ⌝ }
 {
     storage_of(pond, i) + half * discharge_of(pond, i)
@@ -43,7 +49,7 @@ pub fn last_sum(pond: &[u64], half: u64) -> u64
     requires { ⌜ PondOk half (now pond) ⌝ }
     ensures { λ r. ⌜ r ≡ lastSum half (now (pond .entry)) ⌝ }
 {
-    sum_at(pond, half, pond.len() / 3 - 1)
+    sum_at(pond, half, pond.len() / ROW_WIDTH - 1)
 }
 
 // The most that a row's outflow may be.
@@ -51,12 +57,12 @@ pub fn last_discharge(pond: &[u64]) -> u64
     requires { ⌜ TableOk (now pond) ⌝ }
     ensures { λ r. ⌜ r ≡ lastDischarge (now (pond .entry)) ⌝ }
 {
-    discharge_of(pond, pond.len() / 3 - 1)
+    discharge_of(pond, pond.len() / ROW_WIDTH - 1)
 }
 
 // Multiplied before it is divided, so that only the last digit is lost: the product just fits 64 bits.
 fn line(x: u64, x0: u64, x1: u64, y0: u64, y1: u64) -> u64
-    requires { ⌜ LineOk x x0 x1 y0 y1 ⌝ }
+    requires { ⌜ BetweenOk x x0 x1 y0 y1 ⌝ }
     ensures { λ r. ⌜ r ≡ between x x0 x1 y0 y1 ⌝ }
 {
     y0 + (x - x0) * (y1 - y0) / (x1 - x0)
@@ -68,7 +74,7 @@ pub fn lower(pond: &[u64], half: u64, x: u64) -> usize
     ensures { λ r. ⌜ r ≡ lower half (now (pond .entry)) x ⌝ }
 {
     let mut low = 0;
-    let mut high = pond.len() / 3 - 2;
+    let mut high = pond.len() / ROW_WIDTH - 2;
     while low < high {
         let mid = (low + high) / 2;
         if sum_at(pond, half, mid + 1) < x {
@@ -134,13 +140,13 @@ pub fn settle(pond: &[u64], half: u64, x: u64) -> State
 pub fn count_good(pond: &[u64]) -> bool
     ensures { λ r. ⌜ r ≡ countGood (now (pond .entry)) ⌝ }
 {
-    let n = pond.len() / 3;
-    laws::both(pond.len() % 3 == 0, laws::within(2, n as u64, 64))
+    let n = pond.len() / ROW_WIDTH;
+    laws::both(pond.len() % ROW_WIDTH == 0, laws::within(2, n as u64, MOST_POND_ROWS as u64))
 }
 
 fn limits_good(pond: &[u64], i: usize) -> bool
-    requires { ⌜ i < count (now pond) ⌝ }
-    ensures { λ r. ⌜ r ≡ limitsGood (now (pond .entry)) i ⌝ }
+    requires { ⌜ i < rowsIn (now pond) ⌝ }
+    ensures { λ r. ⌜ r ≡ rowWithin (now (pond .entry)) i ⌝ }
 {
     laws::both(
         stage_of(pond, i) <= 1000000,
@@ -153,7 +159,7 @@ fn limits_good(pond: &[u64], i: usize) -> bool
 
 // A broken order is charged to the later row, so each row is held against the one before it.
 fn order_good(pond: &[u64], i: usize) -> bool
-    requires { ⌜ i < count (now pond) ⌝ }
+    requires { ⌜ i < rowsIn (now pond) ⌝ }
     ensures { λ r. ⌜ r ≡ orderGood (now (pond .entry)) i ⌝ }
 {
     if i == 0 {
@@ -170,7 +176,7 @@ fn order_good(pond: &[u64], i: usize) -> bool
 }
 
 fn row_good(pond: &[u64], i: usize) -> bool
-    requires { ⌜ i < count (now pond) ⌝ }
+    requires { ⌜ i < rowsIn (now pond) ⌝ }
     ensures { λ r. ⌜ r ≡ rowGood (now (pond .entry)) i ⌝ }
 {
     laws::both(limits_good(pond, i), order_good(pond, i))
@@ -180,7 +186,7 @@ fn row_good(pond: &[u64], i: usize) -> bool
 pub fn first_bad(pond: &[u64]) -> usize
     ensures { λ r. ⌜ r ≡ firstBad (now (pond .entry)) ⌝ }
 {
-    let n = pond.len() / 3;
+    let n = pond.len() / ROW_WIDTH;
     let mut i = 0;
     while i < n {
         if !row_good(pond, i) {
@@ -193,7 +199,7 @@ pub fn first_bad(pond: &[u64]) -> usize
 
 // Row i holds what half a step at its discharge releases.
 fn held_good(pond: &[u64], half: u64, i: usize) -> bool
-    requires { ⌜ HalfOk half × (TableOk (now pond) × (i < count (now pond))) ⌝ }
+    requires { ⌜ HalfOk half × (TableOk (now pond) × (i < rowsIn (now pond))) ⌝ }
     ensures { λ r. ⌜ r ≡ heldGood half (now (pond .entry)) i ⌝ }
 {
     half * discharge_of(pond, i) <= storage_of(pond, i)
@@ -204,7 +210,7 @@ pub fn first_short(pond: &[u64], half: u64) -> usize
     requires { ⌜ HalfOk half × TableOk (now pond) ⌝ }
     ensures { λ r. ⌜ r ≡ firstShort half (now (pond .entry)) ⌝ }
 {
-    let n = pond.len() / 3;
+    let n = pond.len() / ROW_WIDTH;
     let mut i = 0;
     while i < n {
         if !held_good(pond, half, i) {

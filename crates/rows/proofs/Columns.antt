@@ -11,8 +11,9 @@ use borrow.Author.Tests.{ne-eqb}
 use Rattle.laws.specs.Pick.{pick}
 use Rattle.pond.specs.PondRows.{next, empty}
 use Rattle.pond.specs.declared.State.{State}
-use Rattle.rows.specs.Routing.{states, endOf, outflowOf, storageOf, outflows, storages, stateBefore, InflowOk}
-use Rattle.rows.specs.Standing.{at, before}
+use Rattle.rows.specs.Routing.{states, endOf, outflowOf, storageOf, outflows, storages, stateBefore}
+use Rattle.rows.specs.Needs.{InflowOk}
+use Rattle.rows.specs.Figures.{at, before}
 use Rattle.rows.proofs.Prefix.{altered, take-column}
 
 -- the inflow from a row on leaves room too

@@ -16,7 +16,8 @@ use Rattle.laws.proofs.Num.{below-or-not}
 use Rattle.laws.proofs.Sums.{sum-more}
 use Rattle.laws.proofs.Scans.{scan-is, scan-before, scan-bad, scan-most}
 use Rattle.rows.specs.declared.Kept.{Kept}
-use Rattle.rows.specs.Standing.{maxTo, at, before, releaseAt, peakRow, rowStage, keptTo, keptWith}
+use Rattle.rows.specs.Figures.{maxTo, at, before, releaseAt, peakRow, rowStage, keptTo}
+use Rattle.rows.specs.Needs.{keptWith}
 
 -- one more
 pub max-more : (f : ℕ → ℕ) (n : ℕ) → maxTo f (n + 1) ≡ max (maxTo f n) (f n)

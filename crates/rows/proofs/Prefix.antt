@@ -11,7 +11,7 @@ use Rattle.laws.specs.Pick.{pick}
 use Rattle.laws.proofs.Tests.{by-test}
 use Rattle.pond.specs.PondRows.{lastSum, arrived, next}
 use Rattle.pond.specs.declared.State.{State}
-use Rattle.rows.specs.Routing.{states, endOf, passed, released}
+use Rattle.rows.specs.Routing.{states, endOf, passed, waterReleased}
 
 module _ (h : ℕ) (p : List ℕ) where
   -- the states of two lists one after the other
@@ -31,8 +31,8 @@ module _ (h : ℕ) (p : List ℕ) where
   column-append f st xs ys = ap (map f) (states-append st xs ys) ∙ map-append f (states h p st xs) (states h p (endOf h p st xs) ys)
 
   -- what they release
-  pub released-append : (st : State) (xs ys : List ℕ) → released h p st (xs ++ ys) ≡ released h p st xs + released h p (endOf h p st xs) ys
-  unfolding released endOf
+  pub released-append : (st : State) (xs ys : List ℕ) → waterReleased h p st (xs ++ ys) ≡ waterReleased h p st xs + waterReleased h p (endOf h p st xs) ys
+  unfolding waterReleased endOf
   released-append st [] ys = omega arith
   released-append st (v ∷ xs) ys = omega (arith, released-append (next h p st v) xs ys)
 

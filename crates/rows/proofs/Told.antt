@@ -12,11 +12,13 @@ use lib.Dec.{leb}
 use Rattle.laws.proofs.Num.{below-or-not}
 use Rattle.laws.proofs.Tests.{both-left, both-right, both-true}
 use Rattle.laws.proofs.Scans.{scan-all, scan-whole}
-use Rattle.pond.specs.PondRows.{lastSum, lastDischarge, empty, PondOk, StateOk}
+use Rattle.pond.specs.PondRows.{lastSum, lastDischarge, empty}
+use Rattle.pond.specs.Needs.{PondOk, StateOk}
 use Rattle.pond.specs.declared.State.{State}
 use Rattle.pond.proofs.Steps.{empty-ok}
-use Rattle.rows.specs.Routing.{endOf, outflowOf, outflows, storages, passed, overRow, dryOf}
-use Rattle.rows.specs.Standing.{at, keptTo, figuresOf, standsWithin, standsGood, firstForged, RowOk, RowsOk}
+use Rattle.rows.specs.Routing.{endOf, outflowOf, outflows, storages, passed, overRow}
+use Rattle.rows.specs.Needs.{dryOf, RowOk, RowsOk}
+use Rattle.rows.specs.Figures.{at, keptTo, figuresOf, standsWithin, standsGood, firstForged}
 use Rattle.rows.proofs.Prefix.{passed-most}
 use Rattle.rows.proofs.Columns.{column-length}
 use Rattle.rows.proofs.Reached.{rows-stand}

@@ -16,13 +16,15 @@ use Rattle.laws.specs.Filled.{Filled}
 use Rattle.laws.proofs.Sums.{sum-more, sum-most}
 use Rattle.laws.proofs.Fill.{filled-none, filled-more}
 use Rattle.laws.proofs.Tests.{by-test}
-use Rattle.pond.specs.PondRows.{lastSum, arrived, settled, next, stageAt, PondOk, StateOk}
+use Rattle.pond.specs.PondRows.{lastSum, arrived, settled, next, stageAt}
+use Rattle.pond.specs.Needs.{PondOk, StateOk}
 use Rattle.pond.specs.declared.State.{State}
 use Rattle.pond.proofs.Sums.{last-most}
 use Rattle.rows.specs.declared.Kept.{Kept}
 use Rattle.rows.specs.declared.Dry.{Dry}
-use Rattle.rows.specs.Routing.{states, endOf, outflowOf, storageOf, outflows, storages, passed, overRow, dryOf}
-use Rattle.rows.specs.Standing.{at, before, releaseAt, rowStage, keptTo, keptWith, TurnOk, RowOk, RowsOk}
+use Rattle.rows.specs.Routing.{states, endOf, outflowOf, storageOf, outflows, storages, passed, overRow}
+use Rattle.rows.specs.Needs.{dryOf, keptWith, TurnOk, RowOk, RowsOk}
+use Rattle.rows.specs.Figures.{at, before, releaseAt, rowStage, keptTo}
 use Rattle.rows.proofs.Prefix.{passed-most}
 use Rattle.rows.proofs.Columns.{column-at, column-length, end-more, before-at}
 use Rattle.rows.proofs.Keeping.{kept-more, kept-none}

@@ -1,2 +1,3 @@
+pub mod Figures
 pub mod Routing
-pub mod Standing
+pub mod Needs

@@ -1,14 +1,11 @@
 -- Document 01, 'Pond rows': the pond step at each row of a list of inflow volumes.
-use mathlib.Core.Path.{_≡_}
 use mathlib.Core.List.{List, [], _∷_, map}
-use Prim.Native.Nat.{ℕ, suc, _+_, _-_, _*_, _≤_, _<_}
-use lib.ListN.{length, getD, take}
+use Prim.Native.Nat.{ℕ, suc, _+_, _-_, _*_}
+use lib.ListN.{length, getD}
 use lib.Dec.{leb, ltb, eqb}
 use Rattle.laws.specs.Pick.{pick}
 use Rattle.pond.specs.PondRows.{lastSum, arrived, next, empty}
 use Rattle.pond.specs.declared.State.{State}
-use Rattle.rows.specs.declared.Dry.{Dry}
-use Rattle.rows.specs.Standing.{keptTo}
 
 -- the states after each row, from the state before the first
 unfoldable pub states : ℕ → List ℕ → State → List ℕ → List State
@@ -47,23 +44,10 @@ unfoldable pub total : List ℕ → ℕ
 total [] = 0
 total (v ∷ vs) = v + total vs
 
-unfoldable pub released : ℕ → List ℕ → State → List ℕ → ℕ
-released h p st [] = 0
-released h p st (v ∷ vs) = h * (st .outflow + next h p st v .outflow) + released h p (next h p st v) vs
-
--- what a dry run keeps: where it went over, the figures of the rows that pass, and the state after them
-unfoldable pub dryOf : ℕ → List ℕ → State → List ℕ → Dry
-dryOf h p st vs =
-    record {
-      over = overRow h p st vs;
-      kept = keptTo h p (st .outflow) (outflows h p st vs) (storages h p st vs) (passed h p st vs);
-      last = endOf h p st (take (passed h p st vs) vs);
-    }
+unfoldable pub waterReleased : ℕ → List ℕ → State → List ℕ → ℕ
+waterReleased h p st [] = 0
+waterReleased h p st (v ∷ vs) = h * (st .outflow + next h p st v .outflow) + waterReleased h p (next h p st v) vs
 
 -- the state before row a (from 0), as the rows have it
 unfoldable pub stateBefore : List ℕ → List ℕ → ℕ → State
 stateBefore os ss a = pick (eqb a 0) empty (record { storage = getD ss (a - 1) 0; outflow = getD os (a - 1) 0 })
-
--- inflow volumes that leave room for a row's sum
-pub record InflowOk (vs : List ℕ) : Type 0 where
-  pub small : (i : ℕ) → i < length vs → getD vs i 0 ≤ 1000000000000000

@@ -8,9 +8,10 @@ ghost use Prim.Native.Nat.{_+_, _-_, _*_, _≤_, _<_, max};
 ghost use lib.ListN.{length, take, drop};
 ghost use lib.Dec.{ltb};
 ghost use Rattle.laws.specs.Pick.{pick};
-ghost use Rattle.pond.specs.PondRows.{PondOk, StateOk};
-ghost use Rattle.rows.specs.Routing.{outflows, storages, passed, dryOf, stateBefore, InflowOk};
-ghost use Rattle.rows.specs.Standing.{figuresOf, keptWith, standsWithin, firstForged, TurnOk, RowsOk};
+ghost use Rattle.pond.specs.Needs.{PondOk, StateOk};
+ghost use Rattle.rows.specs.Routing.{outflows, storages, passed, stateBefore};
+ghost use Rattle.rows.specs.Needs.{dryOf, InflowOk, keptWith, TurnOk, RowsOk};
+ghost use Rattle.rows.specs.Figures.{figuresOf, standsWithin, firstForged};
 
 // Of the rows so far: total released, peak outflow with the first row that has it (from 1), greatest row stage.
 pub struct Kept {

@@ -9,8 +9,9 @@ use lib.Dec.{leb}
 use Rattle.laws.specs.Pick.{pick}
 use Rattle.laws.proofs.Tests.{by-test}
 use Rattle.laws.proofs.Num.{below-or-not, div-cross}
-use Rattle.curve.specs.CurveNumbers.{CurveOk}
-use Rattle.runoff.specs.RunoffDepth.{mostRain, noRunoff, N, M, depth}
+use Rattle.curve.specs.Needs.{CurveOk}
+use Rattle.laws.specs.Limits.{mostRain}
+use Rattle.runoff.specs.RunoffDepth.{noRunoff, N, M, depth}
 
 -- with N above 0 the depth is the quotient
 pub depth-some : (C p : ℕ) → 200000 < C * p + 2000 * C → depth C p ≡ 1000 * (N C p * N C p) / (C * M C p)

@@ -4,10 +4,6 @@ use Prim.Native.Nat.{ℕ, _+_, _-_, _*_, _/_}
 use lib.Dec.{leb}
 use Rattle.laws.specs.Pick.{pick}
 
--- no rain entry is above this, in thousandths of an inch
-abbrev pub mostRain : ℕ
-mostRain = 30000
-
 -- N is not above 0
 abbrev pub noRunoff : ℕ → ℕ → Bool
 noRunoff C p = leb (C * p + 2000 * C) 200000

@@ -1,8 +1,9 @@
 // Runoff depth of a cumulative rain, in thousandths of an inch, on a curve number.
 ghost use mathlib.Core.Path.{_≡_};
 ghost use Prim.Native.Nat.{_≤_};
-ghost use Rattle.curve.specs.CurveNumbers.{CurveOk};
-ghost use Rattle.runoff.specs.RunoffDepth.{mostRain, depth};
+ghost use Rattle.curve.specs.Needs.{CurveOk};
+ghost use Rattle.laws.specs.Limits.{mostRain};
+ghost use Rattle.runoff.specs.RunoffDepth.{depth};
 
 // The runoff in millionths of an inch. The test comes before the difference: a drizzle, for which
 // the difference would be negative, never has it squared.

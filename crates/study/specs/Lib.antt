@@ -1,3 +1,2 @@
-pub mod Records
-pub mod Refusals
 pub mod Study
+pub mod Needs

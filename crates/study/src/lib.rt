@@ -1,34 +1,24 @@
 // A study on flat numbers: every input ends with an answer.
 // Units: rain in thousandths of an inch, inflow volumes and storage in thousandths of a cubic foot, outflow in thousandths
 // of a cfs; half is half the step, in seconds.
-pub mod checks;
-pub mod subarea;
-
+use laws::limits;
 use pond::State;
+use refusals::Refusal;
 use rows::RowFigures;
+use subarea::Setup;
 ghost use mathlib.Core.Path.{_≡_};
-ghost use Prim.Native.Nat.{ℕ, _+_, _/_, _≤_, _<_};
 ghost use lib.ListN.{length};
-ghost use Rattle.hydrograph.specs.InflowRows.{plus, mostArea, RainOk, RoomOk};
 ghost use Rattle.curve.specs.declared.Classes.{Classes};
-ghost use Rattle.pond.specs.PondRows.{empty, PondOk};
-ghost use Rattle.rows.specs.Routing.{outflows, storages, passed, InflowOk};
-ghost use Rattle.rows.specs.Standing.{figuresOf};
-ghost use Rattle.study.specs.Records.{areaOf};
-ghost use Rattle.study.specs.Refusals.{overCheck, RecordsOk, AllPatches};
-ghost use Rattle.study.specs.Study.{partOf, rowsFrom, inflowRows, classesAll, classesWith, figuresWith, withClasses, overOf, inflowRefusal, refusalOf, answerOf, settled, outflowRows, storageRows, after, ClassesOk, RowsLent, RecordOk, ListOk, WorkOk};
-
-// The numbers of a run: the step in seconds and the first row's number.
-pub struct Setup {
-    pub step: u64,
-    pub first: u64,
-}
-
-// A refusal's number and place in document 01; both 0 for none.
-pub struct Refusal {
-    pub number: u64,
-    pub place: u64,
-}
+ghost use Rattle.pond.specs.PondRows.{empty};
+ghost use Rattle.pond.specs.Needs.{PondOk};
+ghost use Rattle.rows.specs.Routing.{passed};
+ghost use Rattle.rows.specs.Needs.{InflowOk};
+ghost use Rattle.refusals.specs.Refusals.{after};
+ghost use Rattle.subarea.specs.Needs.{RecordsOk, AllPatches};
+ghost use Rattle.checks.specs.Site.{siteNow, rowsNow, site, found, left};
+ghost use Rattle.checks.specs.Needs.{SiteOk};
+ghost use Rattle.study.specs.Study.{classesAll, figuresWith, figuresAll, routed, overCheck, studyRefusal, studyAnswer, studyRows, studyValues, studyRefusalIn, studyValuesIn};
+ghost use Rattle.study.specs.Needs.{classesWith, overAnswer, decidedAnswer, decidedRows, ClassesOk, RowsLent};
 
 // The figures of a study: total inflow, total released and the last storage in thousandths of a cubic foot, peak outflow in
 // thousandths of a cfs with the first row that has it (from 1), greatest stage in thousandths of a ft, and the area in each
@@ -50,51 +40,6 @@ pub struct Figures {
 pub enum StudyAnswer {
     Refused(Refusal),
     Done(Figures),
-}
-
-// Adds a record's part to each row.
-pub fn add_record(step: u64, rain: &[u64], own: &[u64], rows: &mut [u64])
-    requires { ⌜ RecordOk step (now own) × ((areaOf (now own) ≤ mostArea) × (RainOk (now rain) × RoomOk (now rows))) ⌝ }
-    ensures { λ _. ⌜ now (rows .exit) ≡ plus (partOf step (now (rain .entry)) (now (own .entry))) 1 (now (rows .entry)) ⌝ }
-{
-    let ground = subarea::ground(own);
-    let peak = travel::time_to_peak(step, subarea::time(own));
-    hydrograph::add_parts(ground.curve, ground.area, peak, step, rain, rows);
-}
-
-// Turns a list of zeros into the inflow rows.
-fn add_records(step: u64, rain: &[u64], subareas: &[u64], rows: &mut [u64])
-    requires { ⌜ ListOk step (now subareas) × (RainOk (now rain) × ((length (now rows) ≤ 2000) × (now rows ≡ rowsFrom (λ (k : ℕ). 0) 1 (length (now rows))))) ⌝ }
-    ensures { λ _. ⌜ now (rows .exit) ≡ inflowRows step (now (rain .entry)) (now (subareas .entry)) (length (now (rows .entry))) ⌝ }
-{
-    let n = subareas.len() / subarea::WIDTH;
-    let mut i = 0;
-    while i < n {
-        let a = subarea::WIDTH * i;
-        let e = a + subarea::WIDTH;
-        add_record(step, rain, &subareas[a..e], rows);
-        i += 1;
-    }
-}
-
-// Writes zeros over a list.
-pub fn clear(rows: &mut [u64])
-    ensures { λ _. ⌜ now (rows .exit) ≡ rowsFrom (λ (k : ℕ). 0) 1 (length (now (rows .entry))) ⌝ }
-{
-    let mut i = 0;
-    while i < rows.len() {
-        rows[i] = 0;
-        i += 1;
-    }
-}
-
-// Writes the inflow rows over whatever the list had.
-fn fill_inflow(step: u64, rain: &[u64], subareas: &[u64], rows: &mut [u64])
-    requires { ⌜ ListOk step (now subareas) × (RainOk (now rain) × (length (now rows) ≤ 2000)) ⌝ }
-    ensures { λ _. ⌜ now (rows .exit) ≡ inflowRows step (now (rain .entry)) (now (subareas .entry)) (length (now (rows .entry))) ⌝ }
-{
-    clear(rows);
-    add_records(step, rain, subareas, rows);
 }
 
 // Copies a list over another of its length.
@@ -174,11 +119,9 @@ fn finish(
     storage: &mut [u64],
 ) -> Figures
     requires { ⌜ (RecordsOk (now subareas) × AllPatches (now subareas)) × (PondOk half (now pond) × (InflowOk (now new) × (passed half (now pond) empty (now new) ≡ length (now new)))) ⌝ }
-    requires { ⌜ RowsLent (length (now new)) (length (now inflow)) (length (now outflow)) (length (now storage)) ⌝ }
-    ensures { λ r. ⌜ r ≡ withClasses (now (subareas .entry)) (figuresOf half (now (pond .entry)) (now (new .entry)) (outflows half (now (pond .entry)) empty (now (new .entry))) (storages half (now (pond .entry)) empty (now (new .entry)))) ⌝ }
-    ensures { λ _. ⌜ now (inflow .exit) ≡ now (new .entry) ⌝ }
-    ensures { λ _. ⌜ now (outflow .exit) ≡ outflows half (now (pond .entry)) empty (now (new .entry)) ⌝ }
-    ensures { λ _. ⌜ now (storage .exit) ≡ storages half (now (pond .entry)) empty (now (new .entry)) ⌝ }
+    requires { ⌜ RowsLent (length (now new)) (rowsNow inflow outflow storage) ⌝ }
+    ensures { λ r. ⌜ r ≡ figuresAll half (now (subareas .entry)) (now (pond .entry)) (now (new .entry)) ⌝ }
+    ensures { λ _. ⌜ left inflow outflow storage ≡ routed half (now (pond .entry)) (now (new .entry)) ⌝ }
 {
     copy(new, inflow);
     let empty = State {
@@ -201,11 +144,9 @@ fn settle(
     storage: &mut [u64],
 ) -> StudyAnswer
     requires { ⌜ (RecordsOk (now subareas) × AllPatches (now subareas)) × (PondOk half (now pond) × InflowOk (now new)) ⌝ }
-    requires { ⌜ RowsLent (length (now new)) (length (now inflow)) (length (now outflow)) (length (now storage)) ⌝ }
-    ensures { λ r. ⌜ r ≡ settled half (now (subareas .entry)) (now (pond .entry)) (now (new .entry)) ⌝ }
-    ensures { λ _. ⌜ now (inflow .exit) ≡ after (overCheck half (now (pond .entry)) (now (new .entry))) (now (new .entry)) (now (inflow .entry)) ⌝ }
-    ensures { λ _. ⌜ now (outflow .exit) ≡ after (overCheck half (now (pond .entry)) (now (new .entry))) (outflows half (now (pond .entry)) empty (now (new .entry))) (now (outflow .entry)) ⌝ }
-    ensures { λ _. ⌜ now (storage .exit) ≡ after (overCheck half (now (pond .entry)) (now (new .entry))) (storages half (now (pond .entry)) empty (now (new .entry))) (now (storage .entry)) ⌝ }
+    requires { ⌜ RowsLent (length (now new)) (rowsNow inflow outflow storage) ⌝ }
+    ensures { λ r. ⌜ r ≡ overAnswer half (now (subareas .entry)) (now (pond .entry)) (now (new .entry)) ⌝ }
+    ensures { λ _. ⌜ left inflow outflow storage ≡ after (overCheck half (now (pond .entry)) (now (new .entry))) (routed half (now (pond .entry)) (now (new .entry))) (found inflow outflow storage) ⌝ }
 {
     let empty = State {
         storage: 0,
@@ -223,7 +164,7 @@ fn settle(
 
 // What checks 1 to 13 leave to do.
 fn work(
-    step: u64,
+    setup: Setup,
     rain: &[u64],
     subareas: &[u64],
     pond: &[u64],
@@ -231,17 +172,15 @@ fn work(
     outflow: &mut [u64],
     storage: &mut [u64],
 ) -> StudyAnswer
-    requires { ⌜ WorkOk step (now rain) (now subareas) (now pond) (length (now inflow)) (length (now outflow)) (length (now storage)) ⌝ }
-    ensures { λ r. ⌜ r ≡ settled (step / 2) (now (subareas .entry)) (now (pond .entry)) (inflowRows step (now (rain .entry)) (now (subareas .entry)) (length (now (inflow .entry)))) ⌝ }
-    ensures { λ _. ⌜ now (inflow .exit) ≡ after (overOf step (now (rain .entry)) (now (subareas .entry)) (now (pond .entry)) (length (now (inflow .entry)))) (inflowRows step (now (rain .entry)) (now (subareas .entry)) (length (now (inflow .entry)))) (now (inflow .entry)) ⌝ }
-    ensures { λ _. ⌜ now (outflow .exit) ≡ after (overOf step (now (rain .entry)) (now (subareas .entry)) (now (pond .entry)) (length (now (inflow .entry)))) (outflowRows step (now (rain .entry)) (now (subareas .entry)) (now (pond .entry)) (length (now (inflow .entry)))) (now (outflow .entry)) ⌝ }
-    ensures { λ _. ⌜ now (storage .exit) ≡ after (overOf step (now (rain .entry)) (now (subareas .entry)) (now (pond .entry)) (length (now (inflow .entry)))) (storageRows step (now (rain .entry)) (now (subareas .entry)) (now (pond .entry)) (length (now (inflow .entry)))) (now (storage .entry)) ⌝ }
+    requires { ⌜ SiteOk (siteNow setup rain subareas pond) (rowsNow inflow outflow storage) ⌝ }
+    ensures { λ r. ⌜ r ≡ decidedAnswer (site setup rain subareas pond) (found inflow outflow storage) ⌝ }
+    ensures { λ _. ⌜ left inflow outflow storage ≡ decidedRows (site setup rain subareas pond) (found inflow outflow storage) ⌝ }
 {
     let m = inflow.len();
-    let mut new = [0u64; 2000];
-    fill_inflow(step, rain, subareas, &mut new[..m]);
+    let mut new = [0u64; limits::MOST_ROWS];
+    inflow::fill(setup, rain, subareas, &mut new[..m]);
     settle(
-        step / 2,
+        setup.step / 2,
         subareas,
         pond,
         &new[..m],
@@ -249,32 +188,6 @@ fn work(
         outflow,
         storage,
     )
-}
-
-// The inflow rows alone: refusals 1 to 11, and no pond. Of the outflow and storage lists only the lengths are read.
-pub fn inflow(
-    setup: Setup,
-    rain: &[u64],
-    subareas: &[u64],
-    rows: &mut [u64],
-    outflow: &[u64],
-    storage: &[u64],
-) -> Refusal
-    ensures { λ r. ⌜ r ≡ inflowRefusal setup (now (rain .entry)) (now (subareas .entry)) (length (now (rows .entry))) (length (now (outflow .entry))) (length (now (storage .entry))) ⌝ }
-    ensures { λ _. ⌜ now (rows .exit) ≡ after (inflowRefusal setup (now (rain .entry)) (now (subareas .entry)) (length (now (rows .entry))) (length (now (outflow .entry))) (length (now (storage .entry)))) (inflowRows (setup .step) (now (rain .entry)) (now (subareas .entry)) (length (now (rows .entry)))) (now (rows .entry)) ⌝ }
-{
-    let v = checks::inflow_checks(
-        setup,
-        rain,
-        subareas,
-        rows.len(),
-        outflow.len(),
-        storage.len(),
-    );
-    if v.number == 0 {
-        fill_inflow(setup.step, rain, subareas, rows);
-    }
-    v
 }
 
 // A study: refused by number and place with every list as it was, or done with the rows written.
@@ -287,22 +200,14 @@ pub fn run(
     outflow: &mut [u64],
     storage: &mut [u64],
 ) -> StudyAnswer
-    ensures { λ r. ⌜ r ≡ answerOf setup (now (rain .entry)) (now (subareas .entry)) (now (pond .entry)) (length (now (inflow .entry))) (length (now (outflow .entry))) (length (now (storage .entry))) ⌝ }
-    ensures { λ _. ⌜ now (inflow .exit) ≡ after (refusalOf setup (now (rain .entry)) (now (subareas .entry)) (now (pond .entry)) (length (now (inflow .entry))) (length (now (outflow .entry))) (length (now (storage .entry)))) (inflowRows (setup .step) (now (rain .entry)) (now (subareas .entry)) (length (now (inflow .entry)))) (now (inflow .entry)) ⌝ }
-    ensures { λ _. ⌜ now (outflow .exit) ≡ after (refusalOf setup (now (rain .entry)) (now (subareas .entry)) (now (pond .entry)) (length (now (inflow .entry))) (length (now (outflow .entry))) (length (now (storage .entry)))) (outflowRows (setup .step) (now (rain .entry)) (now (subareas .entry)) (now (pond .entry)) (length (now (inflow .entry)))) (now (outflow .entry)) ⌝ }
-    ensures { λ _. ⌜ now (storage .exit) ≡ after (refusalOf setup (now (rain .entry)) (now (subareas .entry)) (now (pond .entry)) (length (now (inflow .entry))) (length (now (outflow .entry))) (length (now (storage .entry)))) (storageRows (setup .step) (now (rain .entry)) (now (subareas .entry)) (now (pond .entry)) (length (now (inflow .entry)))) (now (storage .entry)) ⌝ }
+    ensures { λ r. ⌜ r ≡ studyAnswer (site setup rain subareas pond) (found inflow outflow storage) ⌝ }
+    ensures { λ _. ⌜ left inflow outflow storage ≡ studyRows (site setup rain subareas pond) (found inflow outflow storage) ⌝ }
+    ensures { λ r. ⌜ studyRefusalIn r ≡ studyRefusal (site setup rain subareas pond) (found inflow outflow storage) ⌝ }
+    ensures { λ r. ⌜ studyValuesIn r ≡ studyValues (site setup rain subareas pond) (found inflow outflow storage) ⌝ }
 {
-    let v = checks::study_checks(
-        setup,
-        rain,
-        subareas,
-        pond,
-        inflow.len(),
-        outflow.len(),
-        storage.len(),
-    );
+    let v = checks::study_checks(setup, rain, subareas, pond, inflow, outflow, storage);
     if v.number != 0 {
         return StudyAnswer::Refused(v);
     }
-    work(setup.step, rain, subareas, pond, inflow, outflow, storage)
+    work(setup, rain, subareas, pond, inflow, outflow, storage)
 }

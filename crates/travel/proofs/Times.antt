@@ -12,7 +12,8 @@ use Rattle.laws.specs.Pick.{pick}
 use Rattle.laws.specs.Sum.{sumTo}
 use Rattle.laws.proofs.Tests.{by-test}
 use Rattle.laws.proofs.Sums.{sum-most}
-use Rattle.travel.specs.TravelTime.{largest, count, unpaved, paved, reaches, shallow, given, segmentTime, timeAt, concentration, timeToPeak, ShallowOk, SegmentOk, SegmentsOk, TimeOk}
+use Rattle.travel.specs.TravelTime.{largest, segmentsIn, unpaved, paved, reaches, shallow, given, segmentTime, segmentTimeAt, concentration, timeToPeak}
+use Rattle.travel.specs.Needs.{ShallowOk, SegmentOk, SegmentsOk, TimeOk}
 use Rattle.travel.proofs.Bisect.{Stays, bound-stays, largest-same, largest-bound, largest-is}
 
 -- a square held against a bound stays past it
@@ -78,13 +79,13 @@ segment-most {k} {L} {r} ok =
 
 module _ {g : List ℕ} (ok : SegmentsOk g) where
   -- the sum over the first n segments
-  pub sum-bound : (n : ℕ) → n ≤ count g → sumTo (timeAt g) n ≤ 400000 * n
-  sum-bound n l = omega (arith, sum-most (timeAt g) 400000 n (λ i h. segment-most (ok .each i (omega arith))))
+  pub sum-bound : (n : ℕ) → n ≤ segmentsIn g → sumTo (segmentTimeAt g) n ≤ 400000 * n
+  sum-bound n l = omega (arith, sum-most (segmentTimeAt g) 400000 n (λ i h. segment-most (ok .each i (omega arith))))
 
   -- the time of concentration is one that the time to peak is asked at
   pub concentration-ok : TimeOk (concentration g)
   unfolding concentration
-  concentration-ok = record { least = omega arith; most = omega (arith, sum-bound (count g) (omega arith), ok .most) }
+  concentration-ok = record { least = omega arith; most = omega (arith, sum-bound (segmentsIn g) (omega arith), ok .most) }
 
 -- a time to peak is at least 3 fifths of 360, whatever the step
 pub peak-range : (step : ℕ) {tc : ℕ} → TimeOk tc → 216 ≤ timeToPeak step tc

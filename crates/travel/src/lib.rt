@@ -3,7 +3,13 @@ ghost use mathlib.Core.Path.{_≡_};
 ghost use Prim.Native.Nat.{_*_, _^_, _<_};
 ghost use lib.Dec.{leb};
 ghost use Rattle.laws.specs.Scan.{scan};
-ghost use Rattle.travel.specs.TravelTime.{largest, count, kind, span, rate, shallow, segmentTime, concentration, timeToPeak, segmentGood, segmentsGood, ShallowOk, SegmentOk, SegmentsOk, TimeOk};
+ghost use Rattle.travel.specs.TravelTime.{largest, segmentsIn, kind, span, rate, shallow, segmentTime, concentration, timeToPeak, segmentGood, segmentsGood};
+ghost use Rattle.travel.specs.Needs.{ShallowOk, SegmentOk, SegmentsOk, TimeOk};
+
+// The numbers of a segment in a list, and the segments that a subarea can have.
+pub const SEGMENT_WIDTH: usize = 3;
+
+pub const MOST_SEGMENTS: usize = 6;
 
 // K of TR-55 appendix F, in ten-thousandths.
 const UNPAVED: u64 = 161345;
@@ -51,29 +57,29 @@ pub fn segment_time(kind: u64, length: u64, rate: u64) -> u64
 }
 
 fn kind_at(segments: &[u64], i: usize) -> u64
-    requires { ⌜ i < count (now segments) ⌝ }
+    requires { ⌜ i < segmentsIn (now segments) ⌝ }
     ensures { λ r. ⌜ r ≡ kind (now (segments .entry)) i ⌝ }
 {
-    segments[3 * i]
+    segments[SEGMENT_WIDTH * i]
 }
 
 fn span_at(segments: &[u64], i: usize) -> u64
-    requires { ⌜ i < count (now segments) ⌝ }
+    requires { ⌜ i < segmentsIn (now segments) ⌝ }
     ensures { λ r. ⌜ r ≡ span (now (segments .entry)) i ⌝ }
 {
-    segments[3 * i + 1]
+    segments[SEGMENT_WIDTH * i + 1]
 }
 
 fn rate_at(segments: &[u64], i: usize) -> u64
-    requires { ⌜ i < count (now segments) ⌝ }
+    requires { ⌜ i < segmentsIn (now segments) ⌝ }
     ensures { λ r. ⌜ r ≡ rate (now (segments .entry)) i ⌝ }
 {
-    segments[3 * i + 2]
+    segments[SEGMENT_WIDTH * i + 2]
 }
 
 // Segment i is within its limits.
 fn segment_good(segments: &[u64], i: usize) -> bool
-    requires { ⌜ i < count (now segments) ⌝ }
+    requires { ⌜ i < segmentsIn (now segments) ⌝ }
     ensures { λ r. ⌜ r ≡ segmentGood (now (segments .entry)) i ⌝ }
 {
     laws::both(
@@ -87,9 +93,9 @@ fn segment_good(segments: &[u64], i: usize) -> bool
 
 // The first segment out of its limits, or the number of segments.
 fn first_bad(segments: &[u64]) -> usize
-    ensures { λ r. ⌜ r ≡ scan (segmentGood (now (segments .entry))) (count (now (segments .entry))) 0 ⌝ }
+    ensures { λ r. ⌜ r ≡ scan (segmentGood (now (segments .entry))) (segmentsIn (now (segments .entry))) 0 ⌝ }
 {
-    let n = segments.len() / 3;
+    let n = segments.len() / SEGMENT_WIDTH;
     let mut i = 0;
     while i < n {
         if !segment_good(segments, i) {
@@ -104,10 +110,10 @@ fn first_bad(segments: &[u64]) -> usize
 pub fn segments_good(segments: &[u64]) -> bool
     ensures { λ r. ⌜ r ≡ segmentsGood (now (segments .entry)) ⌝ }
 {
-    let n = segments.len() / 3;
+    let n = segments.len() / SEGMENT_WIDTH;
     laws::both(
-        segments.len() % 3 == 0,
-        laws::both(laws::within(1, n as u64, 6), first_bad(segments) == n),
+        segments.len() % SEGMENT_WIDTH == 0,
+        laws::both(laws::within(1, n as u64, MOST_SEGMENTS as u64), first_bad(segments) == n),
     )
 }
 
@@ -116,7 +122,7 @@ pub fn concentration(segments: &[u64]) -> u64
     requires { ⌜ SegmentsOk (now segments) ⌝ }
     ensures { λ r. ⌜ r ≡ concentration (now (segments .entry)) ⌝ }
 {
-    let n = segments.len() / 3;
+    let n = segments.len() / SEGMENT_WIDTH;
     let mut sum: u64 = 0;
     let mut i = 0;
     while i < n {

@@ -8,7 +8,7 @@ use Rattle.travel.specs.TravelTime.{segmentTime}
 use Rattle.hydrograph.specs.InflowRows.{weight, volumeOf}
 use Rattle.pond.specs.PondRows.{empty}
 use Rattle.rows.specs.Routing.{outflows, storages, total}
-use Rattle.rows.specs.Standing.{at, releaseAt}
+use Rattle.rows.specs.Figures.{at, releaseAt}
 
 pub record Line : Type 0 where
   pub given : ℕ

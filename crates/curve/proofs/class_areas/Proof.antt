@@ -4,12 +4,12 @@ use Prim.Native.Nat.{_+_, _-_, _≤_}
 use native.Mathlib.Omega.{arith}
 use borrow.Author.Needs.{needs}
 use Rattle.laws.specs.Sum.{sumTo}
-use Rattle.curve.specs.CurveNumbers.{count, classesTo}
+use Rattle.curve.specs.CurveNumbers.{patchesIn, classesTo}
 use Rattle.curve.proofs.class_areas.Statement.{statement}
 use Rattle.curve.proofs.class_areas.Tie as tie
 
 abbrev Inv-loop : tie.InvT-loop
-Inv-loop patches n so₀ i₀ so i = (i ≤ count patches) × (so ≡ classesTo patches i)
+Inv-loop patches n so₀ i₀ so i = (i ≤ patchesIn patches) × (so ≡ classesTo patches i)
 
 abbrev μ-loop : tie.MeasureT-loop
 μ-loop patches n so₀ i₀ so i = n - i

@@ -6,14 +6,14 @@ use borrow.Author.Needs.{needs}
 use Rattle.laws.specs.Sum.{sumTo}
 use Rattle.laws.proofs.Num.{mul-fits}
 use Rattle.laws.proofs.Sums.{sum-more}
-use Rattle.curve.specs.CurveNumbers.{count, cover, soil, area, weightedAt, totalArea, weighted, composite}
+use Rattle.curve.specs.CurveNumbers.{patchesIn, cover, soil, area, weightedAt, totalArea, weighted, composite}
 use Rattle.curve.proofs.Table.{cover-ok}
 use Rattle.curve.proofs.Mean.{area-to, weighted-to, area-some}
 use Rattle.curve.proofs.composite.Statement.{statement}
 use Rattle.curve.proofs.composite.Tie as tie
 
 abbrev Inv-loop : tie.InvT-loop
-Inv-loop patches n a₀ w₀ i₀ a w i = (i ≤ count patches) × ((a ≡ sumTo (area patches) i) × (w ≡ sumTo (weightedAt patches) i))
+Inv-loop patches n a₀ w₀ i₀ a w i = (i ≤ patchesIn patches) × ((a ≡ sumTo (area patches) i) × (w ≡ sumTo (weightedAt patches) i))
 
 abbrev μ-loop : tie.MeasureT-loop
 μ-loop patches n a₀ w₀ i₀ a w i = n - i
@@ -64,7 +64,7 @@ ended : (c : tie.After-loop Inv-loop μ-loop)
 unfolding totalArea weighted
 ended c =
     let p = c .before .before .before .args .patches .now in
-    let all : c .before .loop .i ≡ count p = omega arith in
+    let all : c .before .loop .i ≡ patchesIn p = omega arith in
     (c .before .loop .inv .1 .0 ∙ ap (sumTo (area p)) all, c .before .loop .inv .1 .1 ∙ ap (sumTo (weightedAt p)) all)
 
 nearest-requires : tie.Need-nearest-requires Inv-loop μ-loop

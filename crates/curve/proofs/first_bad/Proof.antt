@@ -5,12 +5,12 @@ use native.Mathlib.Omega.{arith}
 use borrow.Author.Needs.{needs}
 use borrow.Author.Tests.{not-true, not-false}
 use Rattle.laws.proofs.Scans.{Scanning, scan-start, scan-go, scan-stop, scan-done}
-use Rattle.curve.specs.CurveNumbers.{count, patchGood}
+use Rattle.curve.specs.CurveNumbers.{patchesIn, patchGood}
 use Rattle.curve.proofs.first_bad.Statement.{statement}
 use Rattle.curve.proofs.first_bad.Tie as tie
 
 abbrev Inv-loop : tie.InvT-loop
-Inv-loop patches n i₀ i = Scanning (patchGood patches) (count patches) i
+Inv-loop patches n i₀ i = Scanning (patchGood patches) (patchesIn patches) i
 
 abbrev μ-loop : tie.MeasureT-loop
 μ-loop patches n i₀ i = n - i

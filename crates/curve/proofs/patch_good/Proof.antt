@@ -1,11 +1,11 @@
 -- `curve::patch_good` meets its contract. Assumes nothing.
 use borrow.Author.Needs.{needs}
-use Rattle.curve.specs.CurveNumbers.{limitsGood}
+use Rattle.curve.specs.CurveNumbers.{patchWithin}
 use Rattle.curve.proofs.patch_good.Statement.{statement}
 use Rattle.curve.proofs.patch_good.Tie as tie
 
 returns : tie.Need-returns
-unfolding limitsGood
+unfolding patchWithin
 returns c = cc
 
 pub patch-good-spec : {M : Type 1} → statement M

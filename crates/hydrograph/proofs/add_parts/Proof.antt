@@ -5,7 +5,8 @@ use native.Mathlib.Omega.{arith}
 use borrow.Author.Needs.{needs}
 use lib.ListN.{length, getD, length-set}
 use Rattle.laws.specs.Sum.{sumTo}
-use Rattle.hydrograph.specs.InflowRows.{weights, product, term, released, volumeOf, volume, TimingOk, RainOk}
+use Rattle.hydrograph.specs.InflowRows.{weights, term, depthReleased, volumeOf, volume}
+use Rattle.hydrograph.specs.Needs.{product, TimingOk, RainOk}
 use Rattle.hydrograph.proofs.Weights.{peak-most, weights-most, total-some}
 use Rattle.hydrograph.proofs.Released.{released-most, volume-rises, volume-most, volume-none}
 use Rattle.hydrograph.proofs.Parts.{Adding, products, weights-below, depths-below, row-first, adding-turn, adding-end}
@@ -83,8 +84,8 @@ dot-requires c κs =
 -- the depth released through the row
 depth-is : (c : tie.After-dot Inv-loop μ-loop)
     → c .dot .result / c .before .before .before .before .before .before .before .before .fill-weights .result
-    ≡ released (start (c .before .before .before .before .before) .args .curve) (start (c .before .before .before .before .before) .args .peak) (start (c .before .before .before .before .before) .args .step) (start (c .before .before .before .before .before) .args .rain .now) (c .before .before .before .before .before .loop .i + 1)
-unfolding released
+    ≡ depthReleased (start (c .before .before .before .before .before) .args .curve) (start (c .before .before .before .before .before) .args .peak) (start (c .before .before .before .before .before) .args .step) (start (c .before .before .before .before .before) .args .rain .now) (c .before .before .before .before .before .loop .i + 1)
+unfolding depthReleased
 depth-is c =
     let a = c .before .before .before .before .before in
     let s = start a in

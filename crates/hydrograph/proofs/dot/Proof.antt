@@ -6,7 +6,7 @@ use native.Mathlib.Omega.{arith}
 use borrow.Author.Needs.{needs}
 use Rattle.laws.specs.Sum.{sumTo}
 use Rattle.laws.proofs.Sums.{sum-more, sum-most}
-use Rattle.hydrograph.specs.InflowRows.{product}
+use Rattle.hydrograph.specs.Needs.{product}
 use Rattle.hydrograph.proofs.dot.Statement.{statement}
 use Rattle.hydrograph.proofs.dot.Tie as tie
 

@@ -5,12 +5,12 @@ use native.Mathlib.Omega.{arith}
 use borrow.Author.Needs.{needs}
 use borrow.Author.Tests.{not-true, not-false}
 use Rattle.laws.proofs.Scans.{Scanning, scan-start, scan-go, scan-stop, scan-done}
-use Rattle.pond.specs.PondRows.{count, heldGood}
+use Rattle.pond.specs.PondRows.{rowsIn, heldGood}
 use Rattle.pond.proofs.first_short.Statement.{statement}
 use Rattle.pond.proofs.first_short.Tie as tie
 
 abbrev Inv-loop : tie.InvT-loop
-Inv-loop pond half n i₀ i = Scanning (heldGood half pond) (count pond) i
+Inv-loop pond half n i₀ i = Scanning (heldGood half pond) (rowsIn pond) i
 
 abbrev μ-loop : tie.MeasureT-loop
 μ-loop pond half n i₀ i = n - i

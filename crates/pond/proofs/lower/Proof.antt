@@ -2,14 +2,14 @@
 use Prim.Native.Nat.{_-_}
 use native.Mathlib.Omega.{arith}
 use borrow.Author.Tests.{lt-ltb, le-ltb}
-use Rattle.pond.specs.PondRows.{count, lower}
+use Rattle.pond.specs.PondRows.{rowsIn, lower}
 use Rattle.pond.proofs.Halves.{Halving, halve-start, halve-up, halve-down, halve-end}
 use Rattle.pond.proofs.Sums.{nextBelow, lower-stays}
 use Rattle.pond.proofs.lower.Statement.{statement}
 use Rattle.pond.proofs.lower.Tie as tie
 
 abbrev Inv-loop : tie.InvT-loop
-Inv-loop pond half x low₀ high₀ low high = Halving (nextBelow half pond x) (count pond - 2) low high
+Inv-loop pond half x low₀ high₀ low high = Halving (nextBelow half pond x) (rowsIn pond - 2) low high
 
 abbrev μ-loop : tie.MeasureT-loop
 μ-loop pond half x low₀ high₀ low high = high - low

@@ -7,7 +7,8 @@ use lib.ListN.{length}
 use Rattle.pond.specs.PondRows.{lastSum, arrived}
 use Rattle.pond.proofs.Steps.{arrive-ok, settled-ok}
 use Rattle.pond.specs.declared.State.{State}
-use Rattle.rows.specs.Standing.{at, TurnOk}
+use Rattle.rows.specs.Figures.{at}
+use Rattle.rows.specs.Needs.{TurnOk}
 use Rattle.rows.proofs.Turns.{Drying, dry-start, dry-ok, dry-room, dry-turn, dry-over, dry-end}
 use Rattle.rows.proofs.dry_run.Statement.{statement}
 use Rattle.rows.proofs.dry_run.Tie as tie

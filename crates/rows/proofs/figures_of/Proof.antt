@@ -8,7 +8,8 @@ use Rattle.laws.specs.Sum.{sumTo}
 use Rattle.laws.proofs.Sums.{sum-more, sum-most}
 use Rattle.pond.specs.PondRows.{lastSum}
 use Rattle.pond.proofs.Sums.{last-most}
-use Rattle.rows.specs.Standing.{at, keptTo, figuresOf, RowOk}
+use Rattle.rows.specs.Figures.{at, keptTo, figuresOf}
+use Rattle.rows.specs.Needs.{RowOk}
 use Rattle.rows.proofs.Turns.{Figuring, figure-start, figure-room, figure-turn}
 use Rattle.rows.proofs.figures_of.Statement.{statement}
 use Rattle.rows.proofs.figures_of.Tie as tie

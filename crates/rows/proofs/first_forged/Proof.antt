@@ -5,10 +5,10 @@ use native.Mathlib.Omega.{arith}
 use borrow.Author.Needs.{needs}
 use borrow.Author.Tests.{not-true, not-false}
 use lib.ListN.{length}
-use Rattle.pond.specs.PondRows.{count, lastDischarge}
+use Rattle.pond.specs.PondRows.{rowsIn, lastDischarge}
 use Rattle.pond.proofs.Sums.{last-most}
 use Rattle.laws.proofs.Scans.{Scanning, scan-start, scan-go, scan-stop, scan-done}
-use Rattle.rows.specs.Standing.{at, standsWithin, standsGood}
+use Rattle.rows.specs.Figures.{at, standsWithin, standsGood}
 use Rattle.rows.proofs.first_forged.Statement.{statement}
 use Rattle.rows.proofs.first_forged.Tie as tie
 
@@ -22,7 +22,7 @@ stands-good-requires : tie.Need-stands-good-requires Inv-loop μ-loop
 stands-good-requires c κs =
     let s = c .before .before .before .before .before .before .before .before .before in
     let ok = s .pre .0 in
-    (ok .half .most, (omega (arith, c .before .before .before .before .last-discharge .ensures, ok .table .discharges (count (s .args .pond .now) - 1) (omega (arith, ok .table .least))), omega (arith, c .before .before .before .before .before .last-sum .ensures, last-most ok)))
+    (ok .half .most, (omega (arith, c .before .before .before .before .last-discharge .ensures, ok .table .discharges (rowsIn (s .args .pond .now) - 1) (omega (arith, ok .table .least))), omega (arith, c .before .before .before .before .before .last-sum .ensures, last-most ok)))
 
 -- what the test of a row says
 stood : (c : tie.After-stands-good Inv-loop μ-loop)

@@ -7,7 +7,7 @@ use native.Mathlib.Omega.{arith}
 use borrow.Author.Needs.{needs}
 use borrow.Author.Tests.{le-leb, lt-leb}
 use Rattle.laws.proofs.Num.{mul-fits}
-use Rattle.rows.specs.Standing.{standsWithin}
+use Rattle.rows.specs.Figures.{standsWithin}
 use Rattle.rows.proofs.stands_good.Statement.{statement}
 use Rattle.rows.proofs.stands_good.Tie as tie
 

@@ -9,7 +9,7 @@ use Rattle.curve.specs.declared.Classes.{Classes}
 use Rattle.pond.specs.PondRows.{empty}
 use Rattle.pond.proofs.Steps.{empty-ok}
 use Rattle.rows.specs.Routing.{outflowOf, outflows}
-use Rattle.rows.specs.Standing.{figuresOf}
+use Rattle.rows.specs.Figures.{figuresOf}
 use Rattle.rows.proofs.Columns.{column-length}
 use Rattle.rows.proofs.Reached.{rows-stand}
 use Rattle.study.specs.Study.{figuresWith, withClasses}
@@ -42,7 +42,7 @@ returns c =
       c .figures-with .ensures
           ∙ ap (λ (z : Classes). figuresWith z (own .result)) (c .before .all-classes .ensures)
           ∙ ap (withClasses (s .args .subareas .now)) (own .ensures ∙ ap (λ (z : List ℕ). figuresOf h p new z (c .before .before .before .before .before .before .before .before .before .route .last .1 .1 .1 .1 .1 .0)) (e .0) ∙ ap (λ (z : List ℕ). figuresOf h p new (outflows h p empty new) z) (e .1)),
-      (c .before .before .before .before .before .before .before .before .before .before .before .before .before .before .copy .ensures, e),
+      rw (c .before .before .before .before .before .before .before .before .before .before .before .before .before .before .copy .ensures, e .0, e .1),
     )
 
 long : tie.Need-same-length

@@ -1,42 +1,38 @@
 -- `study::run` meets its contract. Assumes nothing.
-use mathlib.Core.Path.{_≡_, sym, ap, _∙_}
-use Prim.Native.Nat.{ℕ}
+use mathlib.Core.Path.{sym, ap, _∙_}
 use borrow.Author.Needs.{needs}
-use lib.ListN.{length}
-use Rattle.study.specs.declared.Refusal.{Refusal}
-use Rattle.study.specs.declared.StudyAnswer.the-variants.{Refused}
-use Rattle.study.specs.Refusals.{checksOf}
-use Rattle.study.proofs.Settling.{stop-answer, stop-old, past-answer, past-after}
-use Rattle.study.proofs.Ready.{work-ok}
+use Rattle.refusals.specs.declared.Refusal.{Refusal}
+use Rattle.checks.specs.Site.{Site, Rows, siteNow, rowsNow}
+use Rattle.study.proofs.Settling.{stopped, decided}
+use Rattle.checks.proofs.Ready.{study-ready}
+use Rattle.study.proofs.Order.{study-told}
 use Rattle.study.proofs.run.Statement.{statement}
 use Rattle.study.proofs.run.Tie as tie
 
-abbrev number : Refusal → ℕ
-number v = v .number
+abbrev x : tie.Start → Site
+x s = siteNow (s .args .setup) (s .args .rain) (s .args .subareas) (s .args .pond)
+
+abbrev l : tie.Start → Rows
+l s = rowsNow (s .args .inflow) (s .args .outflow) (s .args .storage)
 
 refused : tie.Need-returns
 refused c =
-    let s = c .before .before .before .before .before .before .before .before .before in
-    let e = c .before .before .study-checks .ensures in
-    let n : checksOf (s .args .setup .step) (s .args .setup .first) (s .args .rain .now) (s .args .subareas .now) (s .args .pond .now) (length (s .args .inflow .now)) (length (s .args .outflow .now)) (length (s .args .storage .now)) .number ≡ 0 → ⊥ = λ q. c .if1 .taken (ap number e ∙ q) in (
-      ap Refused e ∙ stop-answer (s .args .setup) (s .args .rain .now) (s .args .subareas .now) (s .args .pond .now) (length (s .args .inflow .now)) (length (s .args .outflow .now)) (length (s .args .storage .now)) n,
-      (stop-old (s .args .setup) (s .args .rain .now) (s .args .subareas .now) (s .args .pond .now) (length (s .args .inflow .now)) (length (s .args .outflow .now)) (length (s .args .storage .now)) n _ _, (stop-old (s .args .setup) (s .args .rain .now) (s .args .subareas .now) (s .args .pond .now) (length (s .args .inflow .now)) (length (s .args .outflow .now)) (length (s .args .storage .now)) n _ _, stop-old (s .args .setup) (s .args .rain .now) (s .args .subareas .now) (s .args .pond .now) (length (s .args .inflow .now)) (length (s .args .outflow .now)) (length (s .args .storage .now)) n _ _)),
-    )
+    let s = c .before .before .before .before .before .before .before .before .before .before .before .before in
+    let r = stopped (x s) (l s) (c .before .before .study-checks .ensures) (c .if1 .taken) in
+    (r .0, (r .1, study-told (x s) (l s) _ (r .0)))
 
 requires : tie.Need-work-requires
 requires c κs =
-    let s = c .before .before .before .before .before .before .before .before .before .before .before .before in
-    work-ok (s .args .setup .step) (s .args .setup .first) (s .args .rain .now) (s .args .subareas .now) (s .args .pond .now) (length (s .args .inflow .now)) (length (s .args .outflow .now)) (length (s .args .storage .now)) (sym (ap number (c .before .before .before .before .before .study-checks .ensures)) ∙ c .before .before .before .if1 .left)
+    let s = c .before .before .before .before .before .before .before .before .before .before .before .before .before .before .before in
+    study-ready (x s) (l s) (sym (ap (λ (z : Refusal). z .number) (c .before .before .before .before .before .study-checks .ensures)) ∙ c .before .before .before .if1 .left)
 
 returns : tie.Need-returns-2
 returns c =
-    let s = c .before .before .before .before .before .before .before .before .before .before .before .before .before .before .before .before .before .before .before in
-    let q : checksOf (s .args .setup .step) (s .args .setup .first) (s .args .rain .now) (s .args .subareas .now) (s .args .pond .now) (length (s .args .inflow .now)) (length (s .args .outflow .now)) (length (s .args .storage .now)) .number ≡ 0 = sym (ap number (c .before .before .before .before .before .before .before .before .before .before .before .before .study-checks .ensures)) ∙ c .before .before .before .before .before .before .before .before .before .before .if1 .left in
-    let f = c .before .before .before .before .before .before .work .ensures in (
-      f .0 ∙ past-answer (s .args .setup) (s .args .rain .now) (s .args .subareas .now) (s .args .pond .now) (length (s .args .inflow .now)) (length (s .args .outflow .now)) (length (s .args .storage .now)) q,
-      (f .1 .0 ∙ past-after (s .args .setup) (s .args .rain .now) (s .args .subareas .now) (s .args .pond .now) (length (s .args .inflow .now)) (length (s .args .outflow .now)) (length (s .args .storage .now)) q _ _, (f .1 .1 .0 ∙ past-after (s .args .setup) (s .args .rain .now) (s .args .subareas .now) (s .args .pond .now) (length (s .args .inflow .now)) (length (s .args .outflow .now)) (length (s .args .storage .now)) q _ _, f .1 .1 .1 ∙ past-after (s .args .setup) (s .args .rain .now) (s .args .subareas .now) (s .args .pond .now) (length (s .args .inflow .now)) (length (s .args .outflow .now)) (length (s .args .storage .now)) q _ _)),
-    )
+    let s = c .before .before .before .before .before .before .before .before .before .before .before .before .before .before .before .before .before .before .before .before .before .before in
+    let f = c .before .before .before .before .before .before .work .ensures in
+    let r = decided (x s) (l s) (c .before .before .before .before .before .before .before .before .before .before .before .before .study-checks .ensures) (c .before .before .before .before .before .before .before .before .before .before .if1 .left) in
+    (f .0 ∙ r .0, (f .1 ∙ r .1, study-told (x s) (l s) _ (f .0 ∙ r .0)))
 
 pub run-spec : {M : Type 1} → statement M
 run-spec =
-    tie.close (tie.spec (λ c κs. search needs) refused requires (λ c. search needs) (λ c. search needs) (λ c. search needs) returns)
+    tie.close (tie.spec (search needs) (search needs) (search needs) (search needs) refused requires (search needs) (search needs) (search needs) returns)

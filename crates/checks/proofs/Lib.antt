@@ -1,0 +1,4 @@
+pub mod Passed
+pub mod Kept
+pub mod Ready
+pub mod Answers

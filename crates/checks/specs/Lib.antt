@@ -1,0 +1,3 @@
+pub mod Site
+pub mod Order
+pub mod Needs

@@ -1,0 +1,107 @@
+-- Document 01, 'Refusal numbers and their order': 1 to 13, each a line, in lists by group. An order is read off its list, top to bottom.
+use mathlib.Core.Bool.{Bool, _&&_}
+use mathlib.Core.List.{List, [], _∷_, _++_, map}
+use Prim.Native.Nat.{ℕ, _+_, _-_, _%_}
+use lib.ListN.{length, getD}
+use lib.Dec.{leb, eqb}
+use Rattle.laws.specs.Pick.{pick}
+use Rattle.laws.specs.Scan.{scan}
+use Rattle.laws.specs.Sum.{sumTo}
+use Rattle.laws.specs.Within.{within}
+use Rattle.laws.specs.Limits.{mostRows, leastStep, mostStep, lastNumber, mostRain, mostSubareas, mostArea}
+use Rattle.hydrograph.specs.InflowRows.{concentrationGood, peakGood, weightsGood}
+use Rattle.pond.specs.PondRows.{rowsIn, countGood, firstBad, firstShort}
+use Rattle.refusals.specs.declared.Refusal.{Refusal}
+use Rattle.refusals.specs.Refusals.{unless, firstOf, firstAt}
+use Rattle.subarea.specs.declared.Setup.{Setup}
+use Rattle.subarea.specs.Records.{halfOf, width, recordsIn, recordAt, areaOf, timeOf, patchesPass, segmentsPass}
+use Rattle.checks.specs.Site.{Site, Rows, asked}
+
+-- 1: the row lists have one length, from 1 to 2,000
+unfoldable pub lengthsGood : Rows → Bool
+lengthsGood l = eqb (length (l .outflow)) (asked l) && (eqb (length (l .storage)) (asked l) && within 1 (asked l) mostRows)
+
+-- 2: the step is even, 60 to 3,600
+unfoldable pub stepGood : Setup → Bool
+stepGood g = within leastStep (g .step) mostStep && eqb (g .step % 2) 0
+
+-- 3: n + 1 entries, 1 <= n <= m; entry 0 is 0, none falls, none is above 30,000
+unfoldable pub entriesGood : List ℕ → ℕ → Bool
+entriesGood rain m = within 2 (length rain) (m + 1)
+
+abbrev pub entryGood : List ℕ → ℕ → Bool
+entryGood rain i = leb (getD rain i 0) mostRain && pick (eqb i 0) (eqb (getD rain i 0) 0) (leb (getD rain (i - 1) 0) (getD rain i 0))
+
+abbrev pub firstEntry : List ℕ → ℕ
+firstEntry rain = scan (entryGood rain) (length rain) 0
+
+-- 4: the last row number, first + m - 1, is at most 9,007,199,254,740,991 (m is at least 1 by then)
+unfoldable pub lastGood : Setup → ℕ → Bool
+lastGood g m = leb (g .first + m - 1) lastNumber
+
+-- 5: whole records, 1 to 16
+unfoldable pub recordsGood : List ℕ → Bool
+recordsGood s = eqb (length s % width) 0 && within 1 (recordsIn s) mostSubareas
+
+-- 1 and 2
+abbrev pub frameLines : Setup → Rows → List Refusal
+frameLines g l = unless 1 (lengthsGood l) ∷ unless 2 (stepGood g) ∷ []
+
+-- 3, of m rows asked (two lines: the count, place 0, and the first bad entry, from 0)
+abbrev pub rainLines : List ℕ → ℕ → List Refusal
+rainLines rain m = unless 3 (entriesGood rain m) ∷ firstAt 3 (firstEntry rain) (length rain) ∷ []
+
+-- 1 to 5
+abbrev pub runLines : Site → Rows → List Refusal
+runLines x l =
+    frameLines (x .setup) l
+    ++ rainLines (x .rain) (asked l)
+    ++ (unless 4 (lastGood (x .setup) (asked l)) ∷ unless 5 (recordsGood (x .subareas)) ∷ [])
+
+-- a test of a list of subareas, after its number: of each record, or of all areas together
+pub data ListTest : Type 0 where
+  each : ℕ → (List ℕ → Bool) → ListTest
+  total : ℕ → (ℕ → Bool) → ListTest
+
+-- all areas together
+abbrev pub allArea : List ℕ → ℕ
+allArea s = sumTo (λ i. areaOf (recordAt s i)) (recordsIn s)
+
+-- what a test says of a whole list: its number at the first record that fails, from 1
+abbrev pub overList : List ℕ → ListTest → Refusal
+overList s (each n good) = firstOf n (scan (λ i. good (recordAt s i)) (recordsIn s) 0) (recordsIn s)
+overList s (total n good) = unless n (good (allArea s))
+
+-- 6 and 7: patches, segments
+abbrev pub limitTests : List ListTest
+limitTests = each 6 patchesPass ∷ each 7 segmentsPass ∷ []
+
+-- 9 to 11: Tc, D against Tp, 5 Tp against 512 D
+abbrev pub timingTests : Setup → List ListTest
+timingTests g =
+    each 9 (λ r. concentrationGood (timeOf r))
+    ∷ each 10 (λ r. peakGood (g .step) (timeOf r))
+    ∷ each 11 (λ r. weightsGood (g .step) (timeOf r))
+    ∷ []
+
+-- 6 to 11, each number over the whole list before the next
+abbrev pub listTests : Setup → List ListTest
+listTests g = limitTests ++ (total 8 (λ a. leb a mostArea) ∷ timingTests g)
+
+abbrev pub listLines : Setup → List ℕ → List Refusal
+listLines g s = map (overList s) (listTests g)
+
+-- 12 and 13 (12 has two lines: the count, place 0, and the first bad row)
+abbrev pub pondLines : Setup → List ℕ → List Refusal
+pondLines g p =
+    unless 12 (countGood p)
+    ∷ firstOf 12 (firstBad p) (rowsIn p)
+    ∷ firstOf 13 (firstShort (halfOf g) p) (rowsIn p)
+    ∷ []
+
+-- 1 to 11, and 1 to 13
+abbrev pub inflowLines : Site → Rows → List Refusal
+inflowLines x l = runLines x l ++ listLines (x .setup) (x .subareas)
+
+abbrev pub checkLines : Site → Rows → List Refusal
+checkLines x l = inflowLines x l ++ pondLines (x .setup) (x .pond)

@@ -1,0 +1,216 @@
+// The refusals 1 to 13 in their order, one function a number, in groups that a study, an edit and a mark compose. Rain is in
+// thousandths of an inch.
+pub mod list;
+pub mod record;
+
+use laws::limits;
+use refusals::Refusal;
+use subarea::Setup;
+ghost use mathlib.Core.Path.{_≡_};
+ghost use Prim.Native.Nat.{_+_, _<_};
+ghost use lib.ListN.{length};
+ghost use Rattle.laws.specs.Within.{within};
+ghost use Rattle.pond.specs.PondRows.{rowsIn, countGood, firstBad, firstShort};
+ghost use Rattle.pond.specs.Needs.{TableOk};
+ghost use Rattle.refusals.specs.Refusals.{unless, firstOf, firstAt, firstRefusal};
+ghost use Rattle.subarea.specs.Records.{halfOf};
+ghost use Rattle.checks.specs.Site.{site, basin, found};
+ghost use Rattle.checks.specs.Order.{lengthsGood, stepGood, entriesGood, entryGood, firstEntry, lastGood, recordsGood, frameLines, rainLines, runLines, pondLines, inflowLines, checkLines};
+ghost use Rattle.checks.specs.Needs.{StepOk};
+
+// 1
+fn lengths_check(inflow: &[u64], outflow: &[u64], storage: &[u64]) -> Refusal
+    ensures { λ r. ⌜ r ≡ unless 1 (lengthsGood (found inflow outflow storage)) ⌝ }
+{
+    let m = inflow.len();
+    let some = laws::both(1 <= m, m <= limits::MOST_ROWS);
+    let alike = laws::both(outflow.len() == m, laws::both(storage.len() == m, some));
+    Refusal::charge(1, alike, 0)
+}
+
+// 2
+fn step_check(setup: Setup) -> Refusal
+    ensures { λ r. ⌜ r ≡ unless 2 (stepGood setup) ⌝ }
+{
+    let within = laws::within(limits::LEAST_STEP, setup.step, limits::MOST_STEP);
+    Refusal::charge(2, laws::both(within, setup.step % 2 == 0), 0)
+}
+
+// n + 1 entries for m rows, 1 <= n <= m: tested by a difference, so that no sum wraps.
+fn entries_good(entries: usize, m: usize) -> bool
+    ensures { λ r. ⌜ r ≡ within 2 entries (m + 1) ⌝ }
+{
+    if entries < 2 {
+        return false;
+    }
+    entries - 1 <= m
+}
+
+// 3, the count
+fn entries_check(rain: &[u64], m: usize) -> Refusal
+    ensures { λ r. ⌜ r ≡ unless 3 (entriesGood (now (rain .entry)) m) ⌝ }
+{
+    Refusal::charge(3, entries_good(rain.len(), m), 0)
+}
+
+// Is rain entry i within its limits and not below the one before?
+fn entry_good(rain: &[u64], i: usize) -> bool
+    requires { ⌜ i < length (now rain) ⌝ }
+    ensures { λ r. ⌜ r ≡ entryGood (now (rain .entry)) i ⌝ }
+{
+    let own = rain[i];
+    if i == 0 {
+        return laws::both(own <= limits::MOST_RAIN, own == 0);
+    }
+    laws::both(own <= limits::MOST_RAIN, rain[i - 1] <= own)
+}
+
+// The first bad entry, or the number of entries.
+fn first_entry(rain: &[u64]) -> usize
+    ensures { λ r. ⌜ r ≡ firstEntry (now (rain .entry)) ⌝ }
+{
+    let mut i = 0;
+    while i < rain.len() {
+        if !entry_good(rain, i) {
+            return i;
+        }
+        i += 1;
+    }
+    i
+}
+
+// 3, the first bad entry
+fn entry_check(rain: &[u64]) -> Refusal
+    ensures { λ r. ⌜ r ≡ firstAt 3 (firstEntry (now (rain .entry))) (length (now (rain .entry))) ⌝ }
+{
+    Refusal::first_at(3, first_entry(rain), rain.len())
+}
+
+// Is first + m - 1 a row number? Tested by a difference: the sum may pass 64 bits.
+fn last_good(setup: Setup, m: usize) -> bool
+    ensures { λ r. ⌜ r ≡ lastGood setup m ⌝ }
+{
+    if limits::LAST_NUMBER + 1 < setup.first {
+        return false;
+    }
+    m as u64 <= limits::LAST_NUMBER + 1 - setup.first
+}
+
+// 4
+pub fn last_check(setup: Setup, m: usize) -> Refusal
+    ensures { λ r. ⌜ r ≡ unless 4 (lastGood setup m) ⌝ }
+{
+    Refusal::charge(4, last_good(setup, m), 0)
+}
+
+// 5
+fn records_check(subareas: &[u64]) -> Refusal
+    ensures { λ r. ⌜ r ≡ unless 5 (recordsGood (now (subareas .entry))) ⌝ }
+{
+    let n = subareas.len() / subarea::WIDTH;
+    let few = laws::both(1 <= n, n <= limits::MOST_SUBAREAS);
+    Refusal::charge(5, laws::both(subareas.len() % subarea::WIDTH == 0, few), 0)
+}
+
+// Refusals 1 and 2.
+pub fn frame_checks(setup: Setup, inflow: &[u64], outflow: &[u64], storage: &[u64]) -> Refusal
+    ensures { λ r. ⌜ r ≡ firstRefusal (frameLines setup (found inflow outflow storage)) ⌝ }
+{
+    lengths_check(inflow, outflow, storage).or(step_check(setup))
+}
+
+// Refusal 3.
+fn rain_checks(rain: &[u64], m: usize) -> Refusal
+    ensures { λ r. ⌜ r ≡ firstRefusal (rainLines (now (rain .entry)) m) ⌝ }
+{
+    entries_check(rain, m).or(entry_check(rain))
+}
+
+// Refusals 1 to 5.
+pub fn run_checks(
+    setup: Setup,
+    rain: &[u64],
+    subareas: &[u64],
+    inflow: &[u64],
+    outflow: &[u64],
+    storage: &[u64],
+) -> Refusal
+    ensures { λ r. ⌜ r ≡ firstRefusal (runLines (basin setup rain subareas) (found inflow outflow storage)) ⌝ }
+{
+    frame_checks(setup, inflow, outflow, storage)
+        .or(rain_checks(rain, inflow.len()))
+        .or(last_check(setup, inflow.len()))
+        .or(records_check(subareas))
+}
+
+// 12, the count
+fn count_check(pond: &[u64]) -> Refusal
+    ensures { λ r. ⌜ r ≡ unless 12 (countGood (now (pond .entry))) ⌝ }
+{
+    Refusal::charge(12, pond::count_good(pond), 0)
+}
+
+// 12, the first bad row
+fn table_check(pond: &[u64]) -> Refusal
+    ensures { λ r. ⌜ r ≡ firstOf 12 (firstBad (now (pond .entry))) (rowsIn (now (pond .entry))) ⌝ }
+{
+    Refusal::first_of(12, pond::first_bad(pond), pond.len() / pond::ROW_WIDTH)
+}
+
+// 13
+fn held_check(setup: Setup, pond: &[u64]) -> Refusal
+    requires { ⌜ StepOk setup × TableOk (now pond) ⌝ }
+    ensures { λ r. ⌜ r ≡ firstOf 13 (firstShort (halfOf setup) (now (pond .entry))) (rowsIn (now (pond .entry))) ⌝ }
+{
+    let short = pond::first_short(pond, setup.step / 2);
+    Refusal::first_of(13, short, pond.len() / pond::ROW_WIDTH)
+}
+
+// Refusals 12 and 13.
+pub fn pond_checks(setup: Setup, pond: &[u64]) -> Refusal
+    requires { ⌜ StepOk setup ⌝ }
+    ensures { λ r. ⌜ r ≡ firstRefusal (pondLines setup (now (pond .entry))) ⌝ }
+{
+    let table = count_check(pond).or(table_check(pond));
+    if table.number != 0 {
+        return table;
+    }
+    held_check(setup, pond)
+}
+
+// Refusals 1 to 11: what a study's inflow rows need.
+pub fn inflow_checks(
+    setup: Setup,
+    rain: &[u64],
+    subareas: &[u64],
+    inflow: &[u64],
+    outflow: &[u64],
+    storage: &[u64],
+) -> Refusal
+    ensures { λ r. ⌜ r ≡ firstRefusal (inflowLines (basin setup rain subareas) (found inflow outflow storage)) ⌝ }
+{
+    let v = run_checks(setup, rain, subareas, inflow, outflow, storage);
+    if v.number != 0 {
+        return v;
+    }
+    list::list_checks(setup, subareas)
+}
+
+// Refusals 1 to 13.
+pub fn study_checks(
+    setup: Setup,
+    rain: &[u64],
+    subareas: &[u64],
+    pond: &[u64],
+    inflow: &[u64],
+    outflow: &[u64],
+    storage: &[u64],
+) -> Refusal
+    ensures { λ r. ⌜ r ≡ firstRefusal (checkLines (site setup rain subareas pond) (found inflow outflow storage)) ⌝ }
+{
+    let v = inflow_checks(setup, rain, subareas, inflow, outflow, storage);
+    if v.number != 0 {
+        return v;
+    }
+    pond_checks(setup, pond)
+}

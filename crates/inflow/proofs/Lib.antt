@@ -1,0 +1,2 @@
+pub mod Inflows
+pub mod Answers

@@ -1,0 +1,76 @@
+// The inflow rows of a list of subareas. Rain in thousandths of an inch, inflow volumes in thousandths of a cubic foot.
+use refusals::Refusal;
+use subarea::Setup;
+ghost use mathlib.Core.Path.{_≡_};
+ghost use Prim.Native.Nat.{ℕ, _≤_};
+ghost use lib.ListN.{length};
+ghost use Rattle.laws.specs.Limits.{mostRows, mostArea};
+ghost use Rattle.hydrograph.specs.Needs.{plus, RainOk, RoomOk};
+ghost use Rattle.subarea.specs.Records.{areaOf};
+ghost use Rattle.checks.specs.Site.{basin, found};
+ghost use Rattle.checks.specs.Needs.{RecordOk, ListOk};
+ghost use Rattle.inflow.specs.Inflow.{partOf, rowsFrom, inflowRows, inflowRefusal, inflowAfter};
+
+// Adds a record's part to each row.
+pub fn add_record(setup: Setup, rain: &[u64], own: &[u64], rows: &mut [u64])
+    requires { ⌜ RecordOk setup (now own) × ((areaOf (now own) ≤ mostArea) × (RainOk (now rain) × RoomOk (now rows))) ⌝ }
+    ensures { λ _. ⌜ now (rows .exit) ≡ plus (partOf setup (now (rain .entry)) (now (own .entry))) 1 (now (rows .entry)) ⌝ }
+{
+    let ground = subarea::ground(own);
+    let peak = subarea::peak(setup, own);
+    hydrograph::add_parts(ground.curve, ground.area, peak, setup.step, rain, rows);
+}
+
+// Turns a list of zeros into the inflow rows.
+fn add_records(setup: Setup, rain: &[u64], subareas: &[u64], rows: &mut [u64])
+    requires { ⌜ ListOk setup (now subareas) × (RainOk (now rain) × ((length (now rows) ≤ mostRows) × (now rows ≡ rowsFrom (λ (k : ℕ). 0) 1 (length (now rows))))) ⌝ }
+    ensures { λ _. ⌜ now (rows .exit) ≡ inflowRows setup (now (rain .entry)) (now (subareas .entry)) (length (now (rows .entry))) ⌝ }
+{
+    let n = subareas.len() / subarea::WIDTH;
+    let mut i = 0;
+    while i < n {
+        let a = subarea::WIDTH * i;
+        let e = a + subarea::WIDTH;
+        add_record(setup, rain, &subareas[a..e], rows);
+        i += 1;
+    }
+}
+
+// Writes zeros over a list.
+pub fn clear(rows: &mut [u64])
+    ensures { λ _. ⌜ now (rows .exit) ≡ rowsFrom (λ (k : ℕ). 0) 1 (length (now (rows .entry))) ⌝ }
+{
+    let mut i = 0;
+    while i < rows.len() {
+        rows[i] = 0;
+        i += 1;
+    }
+}
+
+// Writes the inflow rows over whatever the list had.
+pub fn fill(setup: Setup, rain: &[u64], subareas: &[u64], rows: &mut [u64])
+    requires { ⌜ ListOk setup (now subareas) × (RainOk (now rain) × (length (now rows) ≤ mostRows)) ⌝ }
+    ensures { λ _. ⌜ now (rows .exit) ≡ inflowRows setup (now (rain .entry)) (now (subareas .entry)) (length (now (rows .entry))) ⌝ }
+{
+    clear(rows);
+    add_records(setup, rain, subareas, rows);
+}
+
+// The inflow rows alone: refusals 1 to 11, and no pond. Of the outflow and storage lists only the lengths are read.
+pub fn run(
+    setup: Setup,
+    rain: &[u64],
+    subareas: &[u64],
+    rows: &mut [u64],
+    outflow: &[u64],
+    storage: &[u64],
+) -> Refusal
+    ensures { λ r. ⌜ r ≡ inflowRefusal (basin setup rain subareas) (found rows outflow storage) ⌝ }
+    ensures { λ _. ⌜ now (rows .exit) ≡ inflowAfter (basin setup rain subareas) (found rows outflow storage) ⌝ }
+{
+    let v = checks::inflow_checks(setup, rain, subareas, rows, outflow, storage);
+    if v.number == 0 {
+        fill(setup, rain, subareas, rows);
+    }
+    v
+}

@@ -1,0 +1,3 @@
+pub mod Orders
+pub mod Scanned
+pub mod Answers

@@ -1,0 +1,2 @@
+pub mod Subareas
+pub mod Answers

@@ -1,0 +1,68 @@
+-- Document 01, 'What a study is made of': the subareas as one flat list of records, and the numbers of a record that the rules use. Records count from 0 here, places from 1.
+use mathlib.Core.Bool.{Bool, _&&_}
+use mathlib.Core.List.{List}
+use Prim.Native.Nat.{ℕ, _*_, _/_}
+use lib.ListN.{length, getD, take, drop}
+use Rattle.laws.specs.Within.{within}
+use Rattle.curve.specs.CurveNumbers.{patchWidth, mostPatches, totalArea, composite, patchesGood}
+use Rattle.travel.specs.TravelTime.{segmentWidth, mostSegments, concentration, timeToPeak, segmentsGood}
+use Rattle.subarea.specs.declared.Setup.{Setup}
+
+-- h, half the step
+abbrev pub halfOf : Setup → ℕ
+halfOf g = g .step / 2
+
+-- a record: patch count, 8 patches, segment count, 6 segments
+abbrev pub width : ℕ
+width = 44
+
+abbrev pub patchesFrom : ℕ
+patchesFrom = 1
+
+abbrev pub segmentCountAt : ℕ
+segmentCountAt = 25
+
+abbrev pub segmentsFrom : ℕ
+segmentsFrom = 26
+
+-- how many records
+abbrev pub recordsIn : List ℕ → ℕ
+recordsIn s = length s / width
+
+-- record i, from 0
+abbrev pub recordAt : List ℕ → ℕ → List ℕ
+recordAt s i = take width (drop (width * i) s)
+
+-- the patches and the segments within a record's counts
+abbrev pub patchCount : List ℕ → ℕ
+patchCount r = getD r 0 0
+
+abbrev pub patches : List ℕ → List ℕ
+patches r = take (patchWidth * patchCount r) (drop patchesFrom r)
+
+abbrev pub segmentCount : List ℕ → ℕ
+segmentCount r = getD r segmentCountAt 0
+
+abbrev pub segments : List ℕ → List ℕ
+segments r = take (segmentWidth * segmentCount r) (drop segmentsFrom r)
+
+-- a record's area, curve number, Tc and Tp
+abbrev pub areaOf : List ℕ → ℕ
+areaOf r = totalArea (patches r)
+
+abbrev pub curveOf : List ℕ → ℕ
+curveOf r = composite (patches r)
+
+abbrev pub timeOf : List ℕ → ℕ
+timeOf r = concentration (segments r)
+
+abbrev pub peakOf : Setup → List ℕ → ℕ
+peakOf g r = timeToPeak (g .step) (timeOf r)
+
+-- refusal 6: patch count and patches within their limits
+unfoldable pub patchesPass : List ℕ → Bool
+patchesPass r = within 1 (patchCount r) mostPatches && patchesGood (patches r)
+
+-- refusal 7: segment count and segments within their limits
+unfoldable pub segmentsPass : List ℕ → Bool
+segmentsPass r = within 1 (segmentCount r) mostSegments && segmentsGood (segments r)
