@@ -5,10 +5,10 @@ use lib.IntN.{ℤ}
 use Rattle.edit.specs.declared.Edited.{Edited}
 use Rattle.edit.specs.declared.EditAnswer.{EditAnswer}
 use Rattle.edit.specs.Edit.{editRefusalIn, editValuesIn}
-use Rattle.answers.specs.StudyNumbers.{numbers}
+use Rattle.answers.specs.StudyNumbers.{studyNumbers}
 
 abbrev pub editNumbers : ℕ → ℕ → Edited → List ℕ
-editNumbers number place e = numbers number place (e .figures) ++ (e .changed ∷ [])
+editNumbers number place e = studyNumbers number place (e .figures) ++ (e .changed ∷ [])
 
 -- refused: the number and the place, every value 0; done: 0 and 0, and the values
 abbrev pub editNumbersOf : EditAnswer → List ℕ

@@ -4,14 +4,14 @@ use Prim.Native.Nat.{ℕ}
 use lib.Ieee.{Float}
 use Rattle.marks.specs.declared.Point.{Point}
 use Rattle.marks.specs.declared.MarkAnswer.{MarkAnswer}
-use Rattle.marks.specs.ChartMarks.{refusalIn, kindIn}
+use Rattle.marks.specs.ChartMarks.{markRefusalIn, markKindIn}
 
 abbrev pub markNumbers : ℕ → ℕ → ℕ → List ℕ
 markNumbers number place kind = number ∷ place ∷ kind ∷ []
 
-abbrev pub markValues : Float → Float → Point → List Float
-markValues flow stage p = flow ∷ stage ∷ p .row ∷ p .seconds ∷ p .outflow ∷ []
+abbrev pub markDoubles : Float → Float → Point → List Float
+markDoubles flow stage p = flow ∷ stage ∷ p .row ∷ p .seconds ∷ p .outflow ∷ []
 
--- refused: the number and the place, kind 0; done: 0 and 0, and the kind. Its doubles are `valuesIn`
+-- refused: the number and the place, kind 0; done: 0 and 0, and the kind. Its doubles are `markValuesIn`
 abbrev pub markNumbersOf : MarkAnswer → List ℕ
-markNumbersOf a = markNumbers (refusalIn a .number) (refusalIn a .place) (kindIn a)
+markNumbersOf a = markNumbers (markRefusalIn a .number) (markRefusalIn a .place) (markKindIn a)

@@ -7,17 +7,16 @@ use marks::Point;
 use study::Figures;
 use study::StudyAnswer;
 ghost use mathlib.Core.Path.{_≡_};
-ghost use Rattle.study.specs.Study.{refusalIn, nothing};
+ghost use Rattle.study.specs.Study.{studyRefusalIn, noFigures};
 ghost use Rattle.edit.specs.Edit.{editRefusalIn, editValuesIn};
-ghost use Rattle.marks.specs.ChartMarks as Marks;
-ghost use Rattle.marks.specs.ChartMarks.{kindOf, flowOf, stageOf, valuesIn};
-ghost use Rattle.answers.specs.StudyNumbers.{numbers, numbersOf};
+ghost use Rattle.marks.specs.ChartMarks.{kindOf, flowOf, stageOf, markRefusalIn, markValuesIn};
+ghost use Rattle.answers.specs.StudyNumbers.{studyNumbers, studyNumbersOf};
 ghost use Rattle.answers.specs.EditNumbers.{editNumbers, editNumbersOf, changesOf};
-ghost use Rattle.answers.specs.MarkNumbers.{markNumbers, markValues, markNumbersOf};
+ghost use Rattle.answers.specs.MarkNumbers.{markNumbers, markDoubles, markNumbersOf};
 
 // The figures of a refused answer.
 fn no_figures() -> Figures
-    ensures { λ r. ⌜ r ≡ nothing ⌝ }
+    ensures { λ r. ⌜ r ≡ noFigures ⌝ }
 {
     Figures {
         inflow: 0,
@@ -36,7 +35,7 @@ fn no_figures() -> Figures
 // Writes the twelve numbers of a study's answer and gives the first.
 fn write_study(number: u64, place: u64, values: Figures, answer: &mut [u64; 12]) -> u64
     ensures { λ r. ⌜ r ≡ number ⌝ }
-    ensures { λ _. ⌜ now (answer .exit) ≡ numbers number place values ⌝ }
+    ensures { λ _. ⌜ now (answer .exit) ≡ studyNumbers number place values ⌝ }
 {
     *answer = [
         number,
@@ -57,8 +56,8 @@ fn write_study(number: u64, place: u64, values: Figures, answer: &mut [u64; 12])
 
 // A study's answer. Gives the refusal number, 0 when done.
 pub fn put_study(own: StudyAnswer, answer: &mut [u64; 12]) -> u64
-    ensures { λ r. ⌜ r ≡ refusalIn own .number ⌝ }
-    ensures { λ _. ⌜ now (answer .exit) ≡ numbersOf own ⌝ }
+    ensures { λ r. ⌜ r ≡ studyRefusalIn own .number ⌝ }
+    ensures { λ _. ⌜ now (answer .exit) ≡ studyNumbersOf own ⌝ }
 {
     match own {
         StudyAnswer::Refused(v) => write_study(v.number, v.place, no_figures(), answer),
@@ -106,14 +105,14 @@ pub fn put_edit(own: EditAnswer, answer: &mut [u64; 13], changes: &mut [i64; 2])
 {
     match own {
         EditAnswer::Refused(v) => {
-            let none = no_figures();
-            let nothing = Edited {
-                figures: none,
+            let figures = no_figures();
+            let empty = Edited {
+                figures,
                 changed: 0,
                 peak: 0,
                 released: 0,
             };
-            write_edit(v.number, v.place, nothing, answer, changes)
+            write_edit(v.number, v.place, empty, answer, changes)
         }
         EditAnswer::Done(e) => write_edit(0, 0, e, answer, changes),
     }
@@ -162,7 +161,7 @@ fn write_mark(
 ) -> u64
     ensures { λ r. ⌜ r ≡ number ⌝ }
     ensures { λ _. ⌜ now (answer .exit) ≡ markNumbers number place kind ⌝ }
-    ensures { λ _. ⌜ now (values .exit) ≡ markValues flow stage point ⌝ }
+    ensures { λ _. ⌜ now (values .exit) ≡ markDoubles flow stage point ⌝ }
 {
     *answer = [number, place, kind];
     *values = [flow, stage, point.row, point.seconds, point.outflow];
@@ -171,9 +170,9 @@ fn write_mark(
 
 // A mark's answer. Gives the refusal number, 0 when done.
 pub fn put_mark(own: MarkAnswer, answer: &mut [u64; 3], values: &mut [f64; 5]) -> u64
-    ensures { λ r. ⌜ r ≡ Marks.refusalIn own .number ⌝ }
+    ensures { λ r. ⌜ r ≡ markRefusalIn own .number ⌝ }
     ensures { λ _. ⌜ now (answer .exit) ≡ markNumbersOf own ⌝ }
-    ensures { λ _. ⌜ now (values .exit) ≡ valuesIn own ⌝ }
+    ensures { λ _. ⌜ now (values .exit) ≡ markValuesIn own ⌝ }
 {
     match own {
         MarkAnswer::Refused(v) => {

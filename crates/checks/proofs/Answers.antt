@@ -8,6 +8,8 @@ use Rattle.checks.proofs.run_checks.Kinds as run-checks-kinds
 use Rattle.checks.proofs.run_checks.Reads as run-checks-reads
 use Rattle.checks.proofs.pond_checks.Kinds as pond-checks-kinds
 use Rattle.checks.proofs.pond_checks.Reads as pond-checks-reads
+use Rattle.checks.proofs.forged_check.Kinds as forged-check-kinds
+use Rattle.checks.proofs.forged_check.Reads as forged-check-reads
 use Rattle.checks.proofs.inflow_checks.Kinds as inflow-checks-kinds
 use Rattle.checks.proofs.inflow_checks.Reads as inflow-checks-reads
 use Rattle.checks.proofs.study_checks.Kinds as study-checks-kinds
@@ -34,6 +36,9 @@ run-checks-one κs a x y s t p q = same p q
 
 pub pond-checks-one : OneAnswer pond-checks-kinds.ps pond-checks-kinds.r pond-checks-reads.Post
 pond-checks-one κs a x y s t p q = same p q
+
+pub forged-check-one : OneAnswer forged-check-kinds.ps forged-check-kinds.r forged-check-reads.Post
+forged-check-one κs a x y s t p q = same p q
 
 pub inflow-checks-one : OneAnswer inflow-checks-kinds.ps inflow-checks-kinds.r inflow-checks-reads.Post
 inflow-checks-one κs a x y s t p q = same p q

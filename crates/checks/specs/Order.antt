@@ -11,6 +11,7 @@ use Rattle.laws.specs.Within.{within}
 use Rattle.laws.specs.Limits.{mostRows, leastStep, mostStep, lastNumber, mostRain, mostSubareas, mostArea}
 use Rattle.hydrograph.specs.InflowRows.{concentrationGood, peakGood, weightsGood}
 use Rattle.pond.specs.PondRows.{rowsIn, countGood, firstBad, firstShort}
+use Rattle.rows.specs.Figures.{firstForged}
 use Rattle.refusals.specs.declared.Refusal.{Refusal}
 use Rattle.refusals.specs.Refusals.{unless, firstOf, firstAt}
 use Rattle.subarea.specs.declared.Setup.{Setup}
@@ -98,6 +99,10 @@ pondLines g p =
     ∷ firstOf 12 (firstBad p) (rowsIn p)
     ∷ firstOf 13 (firstShort (halfOf g) p) (rowsIn p)
     ∷ []
+
+-- 17, of an edit and of a mark: the first row that cannot be the pond's
+abbrev pub forgedLine : Setup → List ℕ → Rows → Refusal
+forgedLine g p l = firstOf 17 (firstForged (halfOf g) p (l .outflow) (l .storage)) (length (l .outflow))
 
 -- 1 to 11, and 1 to 13
 abbrev pub inflowLines : Site → Rows → List Refusal

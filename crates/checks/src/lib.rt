@@ -11,7 +11,8 @@ ghost use Prim.Native.Nat.{_+_, _<_};
 ghost use lib.ListN.{length};
 ghost use Rattle.laws.specs.Within.{within};
 ghost use Rattle.pond.specs.PondRows.{rowsIn, countGood, firstBad, firstShort};
-ghost use Rattle.pond.specs.Needs.{TableOk};
+ghost use Rattle.pond.specs.Needs.{TableOk, PondOk};
+ghost use Rattle.rows.specs.Figures.{firstForged};
 ghost use Rattle.refusals.specs.Refusals.{unless, firstOf, firstAt, firstRefusal};
 ghost use Rattle.subarea.specs.Records.{halfOf};
 ghost use Rattle.checks.specs.Site.{site, basin, found};
@@ -176,6 +177,15 @@ pub fn pond_checks(setup: Setup, pond: &[u64]) -> Refusal
         return table;
     }
     held_check(setup, pond)
+}
+
+// 17. Any numbers may stand in the rows.
+pub fn forged_check(setup: Setup, pond: &[u64], outflow: &[u64], storage: &[u64]) -> Refusal
+    requires { ⌜ PondOk (halfOf setup) (now pond) × (length (now storage) ≡ length (now outflow)) ⌝ }
+    ensures { λ r. ⌜ r ≡ firstOf 17 (firstForged (halfOf setup) (now (pond .entry)) (now (outflow .entry)) (now (storage .entry))) (length (now (outflow .entry))) ⌝ }
+{
+    let forged = rows::first_forged(pond, setup.step / 2, outflow, storage);
+    Refusal::first_of(17, forged, outflow.len())
 }
 
 // Refusals 1 to 11: what a study's inflow rows need.

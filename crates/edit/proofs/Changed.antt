@@ -12,18 +12,25 @@ use borrow.Rule.Slice.PartMut.{putMid}
 use Rattle.laws.proofs.Num.{below-or-not}
 use Rattle.laws.proofs.Fill.{tail-part, tail-back}
 use Rattle.laws.proofs.Scans.{scan-most, scan-before, scan-bad}
-use Rattle.pond.specs.PondRows.{count, PondOk, StateOk}
+use Rattle.pond.specs.PondRows.{rowsIn}
+use Rattle.pond.specs.Needs.{PondOk, StateOk}
 use Rattle.pond.specs.declared.State.{State}
 use Rattle.pond.proofs.Steps.{empty-ok}
 use Rattle.pond.proofs.Sums.{last-most}
 use Rattle.rows.specs.Routing.{outflowOf, storageOf, outflows, storages, passed, stateBefore}
-use Rattle.rows.specs.Standing.{at, keptTo, figuresOf, RowOk, RowsOk}
+use Rattle.rows.specs.Figures.{at, keptTo, figuresOf}
+use Rattle.rows.specs.Needs.{RowOk, RowsOk}
 use Rattle.rows.proofs.Columns.{column-length}
 use Rattle.rows.proofs.Keeping.{max-most}
 use Rattle.rows.proofs.Turns.{released-to}
 use Rattle.rows.proofs.Reached.{rows-stand}
-use Rattle.edit.specs.Altering.{firstChanged, outflowsFrom, storagesFrom}
-use Rattle.edit.specs.Edit.{SmallOk}
+use Rattle.checks.specs.Site.{Rows}
+use Rattle.alter.specs.Altering.{firstChanged, outflowsFrom, storagesFrom}
+use Rattle.edit.specs.Needs.{SmallOk}
+
+-- rows whose lists are the same are
+pub rows-equal : {a b : Rows} → a .inflow ≡ b .inflow → a .outflow ≡ b .outflow → a .storage ≡ b .storage → a ≡ b
+rows-equal p q s = λ i. record { inflow = p i; outflow = q i; storage = s i }
 
 module _ (vs ws : List ℕ) where
   -- it is a row, or their number
@@ -80,7 +87,7 @@ module _ {h : ℕ} {p : List ℕ} (pond : PondOk h p) (os ss : List ℕ) (ok : R
   figures-small vs =
       let top : (i : ℕ) → i < length os → h * at os i ≤ 1018000000000 = λ i l. omega (arith, ok .each i l .covers, ok .each i l .within-last, last-most pond) in
       record {
-        peak-most = max-most (at os) 1000000000000000000 (length os) (λ i l. omega (arith, ok .each i l .outflow-most, pond .table .discharges (count p - 1) (omega (arith, pond .table .least))));
+        peak-most = max-most (at os) 1000000000000000000 (length os) (λ i l. omega (arith, ok .each i l .outflow-most, pond .table .discharges (rowsIn p - 1) (omega (arith, pond .table .least))));
         released-most = omega (arith, released-to h p 0 os ss (length os) (ok .few) (omega arith) top);
       }
 

@@ -1,47 +1,33 @@
--- What the checks of an edit leave. Assumes nothing.
+-- What the checks of an edit up to 13 leave. Assumes nothing.
 use mathlib.Core.Path.{_≡_}
-use mathlib.Core.List.{List}
-use Prim.Native.Nat.{ℕ, _-_, _/_}
+use mathlib.Core.List.{List, _++_}
+use Prim.Native.Nat.{ℕ}
 use lib.ListN.{length}
-use Rattle.laws.proofs.Tests.{kept}
-use Rattle.study.specs.declared.Setup.{Setup}
-use Rattle.study.specs.Records.{width, count}
-use Rattle.study.specs.Refusals.{unless, runChecks, listChecks, pondChecks}
-use Rattle.study.proofs.Orders.{or-none, unless-none}
-use Rattle.study.proofs.Ready.{RunOk, run-ok, half-ok, list-ok, pond-fits}
-use Rattle.edit.specs.Altering.{altered}
-use Rattle.edit.specs.Fresh.{PlaceOk}
-use Rattle.edit.specs.Refusals.{placeGood, listsRefusal}
-use Rattle.edit.specs.Edit.{EditOk}
-use Rattle.edit.proofs.OnlyFresh.{fresh-ok}
+use Rattle.checks.specs.Site.{Site, Rows}
+use Rattle.subarea.specs.Records.{width}
+use Rattle.refusals.specs.Refusals.{firstRefusal}
+use Rattle.checks.specs.Order.{listLines, pondLines}
+use Rattle.refusals.proofs.Orders.{all-pass, both-pass}
+use Rattle.checks.proofs.Ready.{list-ok, pond-fits}
+use Rattle.alter.specs.Altering.{altered, editCheckLines}
+use Rattle.alter.proofs.OnlyFresh.{fresh-ok}
+use Rattle.alter.proofs.Ready.{placeLines, place-ready}
+use Rattle.edit.specs.Needs.{EditOk}
 
--- 5 and 15 leave a listed place
-pub place-ok : {D first : ℕ} {rain s : List ℕ} {m o t : ℕ} → RunOk D first rain s m o t → (k : ℕ) (r : List ℕ) → unless 15 (placeGood s k) .number ≡ 0 → length r ≡ width → PlaceOk s k r
-unfolding placeGood
-place-ok {s = s} run k r e w =
-    let here = kept 1 k (count s) (unless-none 14 (placeGood s k) e) in
-    record { records = run .records; listed = here .low; last = here .high; whole = w }
-
--- the checks before 16
-pub edit-ok : (g : Setup) (rain s p : List ℕ) (m o t k : ℕ) (r : List ℕ) → length r ≡ width → listsRefusal g rain s p m o t k r .number ≡ 0 → EditOk (g .step) rain s p m o t k r
-unfolding listsRefusal
-edit-ok g rain s p m o t k r w e =
-    let one = or-none (runChecks (g .step) (g .first) rain s m o t) _ e in
-    let fifteen = or-none (unless 15 (placeGood s k)) _ (one .1) in
-    let stood = or-none (listChecks (g .step) s) _ (fifteen .1) in
-    let new = or-none (listChecks (g .step) (altered s k r)) (pondChecks (g .step / 2) p) (stood .1) in
-    let run = run-ok (g .step) (g .first) rain s m o t (one .0) in
-    let place = place-ok run k r (fifteen .0) w in
-    let fresh = fresh-ok s k r place (g .step) (record { least = run .step-least; most = run .step-most; none-refused = new .0 }) in
+pub edit-ok : (x : Site) (l : Rows) (k : ℕ) (r : List ℕ) → length r ≡ width → firstRefusal (editCheckLines x l k r) .number ≡ 0 → EditOk x l k r
+edit-ok x l k r w e =
+    let stands = listLines (x .setup) (x .subareas) in
+    let alters = listLines (x .setup) (altered (x .subareas) k r) in
+    let ponds = pondLines (x .setup) (x .pond) in
+    let one = both-pass (placeLines x l k) (stands ++ (alters ++ ponds)) (all-pass (editCheckLines x l k r) e) in
+    let two = both-pass stands (alters ++ ponds) (one .1) in
+    let three = both-pass alters ponds (two .1) in
+    let ready = place-ready x l k r w (one .0) in
+    let run = ready .0 in
+    let fresh = fresh-ok (x .subareas) k r (ready .1) (x .setup) (run .step) (three .0) in
     record {
-      pond = pond-fits (g .step / 2) p (half-ok (g .step) (run .step-least) (run .step-most)) (new .1);
-      list = list-ok (g .step) s (run .records) (run .step-least) (run .step-most) (stood .0);
-      place = place;
+      work = record { basin = record { run = run; list = list-ok (x .setup) (x .subareas) (run .records) (run .step) (two .0) }; pond = pond-fits (x .setup) (x .pond) (run .step) (three .1) };
+      place = ready .1;
       fresh = fresh .0;
       area = fresh .1;
-      raining = run .raining;
-      least = run .rows-least;
-      most = run .rows-most;
-      out-long = run .out-long;
-      held-long = run .held-long;
     }

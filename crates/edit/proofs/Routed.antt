@@ -1,11 +1,11 @@
--- An edit of the rows of a done study is a study of the altered list. Assumes nothing.
-use mathlib.Core.Path.{_≡_, refl, sym, ap, _∙_}
+-- An edit of the rows of a done study is a study of the altered site. Assumes nothing.
+use mathlib.Core.Path.{_≡_, refl, sym, ap, _∙_, subst}
 use mathlib.Core.Bool.{Bool, true, false}
 use mathlib.Core.Logic.{⊎-elim}
-use mathlib.Core.List.{List}
-use Prim.Native.Nat.{ℕ, _+_, _-_, _/_, _≤_, _<_}
+use mathlib.Core.List.{List, [], _∷_, _++_}
+use Prim.Native.Nat.{ℕ, _+_, _≤_, _<_}
 use native.Mathlib.Omega.{arith}
-use borrow.Author.Tests.{eqb-true, ne-eqb, lt-ltb, le-ltb}
+use borrow.Author.Tests.{eqb-true, eq-eqb, ne-eqb, lt-ltb, le-ltb}
 use lib.Dec.{eqb}
 use lib.ListN.{length, take, drop, take-append-drop, length-drop}
 use lib.Seq.{length-take-le}
@@ -15,47 +15,76 @@ use Rattle.laws.proofs.Tests.{keeps}
 use Rattle.pond.specs.PondRows.{empty}
 use Rattle.pond.specs.declared.State.{State}
 use Rattle.rows.specs.Routing.{endOf, outflowOf, storageOf, outflows, storages, passed, overRow, stateBefore}
-use Rattle.rows.specs.Standing.{figuresOf, firstForged}
 use Rattle.rows.proofs.Prefix.{passed-append, passed-take}
 use Rattle.rows.proofs.Columns.{column-length, before-is, edit-is-new}
 use Rattle.rows.proofs.Told.{over-none, routed-pass}
-use Rattle.study.specs.declared.Setup.{Setup}
-use Rattle.study.specs.declared.Refusal.{Refusal}
+use Rattle.refusals.specs.declared.Refusal.{Refusal}
 use Rattle.study.specs.declared.StudyAnswer.the-variants as Study
-use Rattle.study.specs.Records.{width, count}
-use Rattle.study.specs.Refusals.{refuse, none, orElse, unless, firstOf, recordsGood, runChecks, listChecks, pondChecks, checksOf, overCheck}
-use Rattle.study.specs.Study.{partOf, inflowAt, inflowRows, outflowRows, storageRows, classesAll, figuresWith, overOf, refusalOf, answerOf, figuresAll, after, passes, WorkOk}
-use Rattle.study.proofs.Orders.{or-same, or-second, or-none}
-use Rattle.study.proofs.Inflows.{rows-length}
-use Rattle.study.proofs.Ready.{work-ok}
+use Rattle.checks.specs.Site.{Site, Rows}
+use Rattle.subarea.specs.Records.{width, recordsIn, halfOf}
+use Rattle.refusals.specs.Refusals.{refuse, none, orElse, unless, firstAfter, firstRefusal, after, AllPass}
+use Rattle.checks.specs.Order.{recordsGood, runLines, listLines, pondLines, checkLines}
+use Rattle.study.specs.Study.{overCheck, overOf, studyRefusal, studyAnswer, studyRows, classesAll, figuresWith, figuresAll, routed}
+use Rattle.inflow.specs.Inflow.{inflowAt, inflowOf}
+use Rattle.checks.specs.Needs.{SiteOk}
+use Rattle.refusals.proofs.Orders.{both-pass, first-append, goes-on, none-new}
+use Rattle.inflow.proofs.Inflows.{rows-length}
+use Rattle.checks.proofs.Ready.{site-ok}
+use Rattle.study.proofs.Order.{study-passes}
+use Rattle.alter.specs.Altering.{altered, alteredSite, newInflow, newInflowOf, firstChanged, placeGood}
+use Rattle.alter.specs.Needs.{PlaceOk}
+use Rattle.alter.proofs.Places.{altered-length}
+use Rattle.alter.proofs.Swapping.{new-is}
 use Rattle.edit.specs.declared.EditAnswer.the-variants.{Refused, Done}
-use Rattle.edit.specs.Altering.{altered, oldRecord, newInflow, firstChanged, outflowsFrom, storagesFrom}
-use Rattle.edit.specs.Fresh.{PlaceOk}
-use Rattle.edit.specs.Refusals.{placeGood, firstUnfit, overFrom, listsRefusal, rowsRefusal, editRefusal}
-use Rattle.edit.specs.Edit.{editedOf, editAnswer, inflowAfter, outflowAfter, storageAfter}
-use Rattle.edit.specs.Standing.{studyIn}
-use Rattle.edit.proofs.Places.{altered-length}
-use Rattle.edit.proofs.Swapping.{new-is, fit-all}
-use Rattle.edit.proofs.Changed.{changed-most, changed-front}
+use Rattle.laws.specs.Limits.{mostRows}
+use Rattle.checks.specs.Order.{forgedLine}
+use Rattle.edit.specs.Edit.{unfitOf, overFrom, editRefusal, rerouted, newRows, figuresIn, editedOf, editDone, editAnswer, editRows}
+use Rattle.edit.specs.Standing.{studyIn, Studied, EditIsStudy}
+use Rattle.edit.proofs.Changed.{rows-equal, changed-most, changed-front}
+use Rattle.edit.proofs.Fitting.{fit-all}
 
--- 14 of rows that begin as rows that all pass: from row a on it is what it is from the start
-module _ (h : ℕ) (p vs ws : List ℕ) (a : ℕ) (all : passed h p empty vs ≡ length vs) (most : a ≤ length vs) (long : length ws ≡ length vs) (front : take a vs ≡ take a ws) where
+-- lines that all pass leave it to what comes after
+none-first : (l : List Refusal) (v : Refusal) → v .number ≡ 0 → AllPass l → firstAfter v l .number ≡ 0
+unfolding firstAfter
+none-first [] v z p = z
+none-first (w ∷ ws) v z p = none-first ws (orElse v w) (rw (eq-eqb (v .number) 0 z) (p .0)) (p .1)
+
+past : (l : List Refusal) (w : Refusal) (k : List Refusal) → AllPass l → firstRefusal (w ∷ k) ≡ firstRefusal (l ++ (w ∷ k))
+past l w k p = goes-on l w k refl (none-first l none refl p)
+
+-- a line that is none may go
+skipped : (l : List Refusal) (w : Refusal) → firstRefusal (l ++ (none ∷ none ∷ w ∷ [])) ≡ firstRefusal (l ++ (w ∷ []))
+unfolding firstAfter
+skipped l w = first-append none l (none ∷ none ∷ w ∷ []) ∙ go (firstRefusal l) ∙ sym (first-append none l (w ∷ []))
+  where
+    go : (v : Refusal) → firstAfter v (none ∷ none ∷ w ∷ []) ≡ firstAfter v (w ∷ [])
+    go v = step (eqb (v .number) 0) refl
+      where
+        step : (b : Bool) → eqb (v .number) 0 ≡ b → firstAfter v (none ∷ none ∷ w ∷ []) ≡ firstAfter v (w ∷ [])
+        step true t = rw t
+        step false t = rw (t, t, t)
+
+-- 14 of rows that begin as rows that all pass: from the first changed row on it is what it is from the start
+module _ (h : ℕ) (p vs ws : List ℕ) (all : passed h p empty vs ≡ length vs) (long : length ws ≡ length vs) where
+  abbrev a : ℕ
+  a = firstChanged vs ws
+
   abbrev st : State
-  st = stateBefore (outflows h p empty vs) (storages h p empty vs) a
+  st = stateBefore (outflows h p empty vs) (storages h p empty vs) (firstChanged vs ws)
 
   reached : st ≡ endOf h p empty (take a ws)
-  reached = before-is h p a vs most ∙ ap (endOf h p empty) front
+  reached = before-is h p a vs (changed-most vs ws) ∙ ap (endOf h p empty) (changed-front vs ws long)
 
   front-passes : passed h p empty (take a ws) ≡ length (take a ws)
-  front-passes = ap (passed h p empty) (sym front) ∙ passed-take h p empty a vs all ∙ ap length front
+  front-passes = ap (passed h p empty) (sym (changed-front vs ws long)) ∙ passed-take h p empty a vs all ∙ ap length (changed-front vs ws long)
 
   passed-from : passed h p empty ws ≡ a + passed h p st (drop a ws)
   passed-from =
       ap (passed h p empty) (sym (take-append-drop a ws))
       ∙ passed-append h p empty (take a ws) (drop a ws) front-passes
-      ∙ omega (arith, length-take-le a ws (omega (arith, long, most)), ap (λ (z : State). passed h p z (drop a ws)) reached)
+      ∙ omega (arith, length-take-le a ws (omega (arith, long, changed-most vs ws)), ap (λ (z : State). passed h p z (drop a ws)) reached)
 
-  pub over-from : overFrom h p (outflows h p empty vs) (storages h p empty vs) ws a ≡ overCheck h p ws
+  over-from : overFrom h p (routed h p vs) ws ≡ overCheck h p ws
   unfolding overFrom overCheck overRow
   over-from =
       ⊎-elim
@@ -63,151 +92,119 @@ module _ (h : ℕ) (p vs ws : List ℕ) (a : ℕ) (all : passed h p empty vs ≡
       let far : passed h p empty ws + 1 ≡ a + (passed h p st (drop a ws) + 1) = omega (arith, passed-from) in
       rw (lt-ltb (passed h p st (drop a ws)) (length (drop a ws)) l, lt-ltb (passed h p empty ws) (length ws) (omega (arith, l, passed-from, length-drop a ws)), ne-eqb (passed h p st (drop a ws) + 1) 0 (λ e. omega (arith, e)), ne-eqb (passed h p empty ws + 1) 0 (λ e. omega (arith, e)), far))
       (λ (l : length (drop a ws) ≤ passed h p st (drop a ws)).
-      rw (le-ltb (passed h p st (drop a ws)) (length (drop a ws)) l, le-ltb (passed h p empty ws) (length ws) (omega (arith, l, passed-from, length-drop a ws, long, most))))
+      rw (le-ltb (passed h p st (drop a ws)) (length (drop a ws)) l, le-ltb (passed h p empty ws) (length ws) (omega (arith, l, passed-from, length-drop a ws, long, changed-most vs ws))))
       (below-or-not (passed h p st (drop a ws)) (length (drop a ws)))
 
--- rows of a done study of a list of m rows
-module _ (g : Setup) (rain p s : List ℕ) (m : ℕ) (done : refusalOf g rain s p m m m .number ≡ 0) where
-  abbrev D : ℕ
-  D = g .step
-
+module _ (x : Site) (l : Rows) (so : Studied x l) where
   abbrev h : ℕ
-  h = g .step / 2
+  h = halfOf (x .setup)
+
+  abbrev p : List ℕ
+  p = x .pond
 
   abbrev vs : List ℕ
-  vs = inflowRows (g .step) rain s m
+  vs = inflowOf x l
 
-  abbrev os : List ℕ
-  os = outflowRows (g .step) rain s p m
+  -- the rows are routed from the site's inflow rows
+  rows-are : l ≡ routed (halfOf (x .setup)) (x .pond) (inflowOf x l)
+  unfolding studyRows
+  rows-are = so .rows ∙ sym (none-new (studyRefusal x l) (so .done) (routed (halfOf (x .setup)) (x .pond) (inflowOf x l)) l)
 
-  abbrev ss : List ℕ
-  ss = storageRows (g .step) rain s p m
+  two : AllPass (checkLines x l) × AllPass (overOf x l ∷ [])
+  two = both-pass (checkLines x l) (overOf x l ∷ []) (study-passes x l (so .done))
 
-  pub rows-long : length vs ≡ m
-  rows-long = rows-length (inflowAt (g .step) rain s) 1 m
+  ready : SiteOk x l
+  ready = site-ok x l (two .0)
 
-  pub out-long : length os ≡ m
-  out-long = column-length h p outflowOf empty vs ∙ rows-long
-
-  pub held-long : length ss ≡ m
-  held-long = column-length h p storageOf empty vs ∙ rows-long
-
-  clear : (checksOf D (g .first) rain s p m m m .number ≡ 0) × (overOf D rain s p m .number ≡ 0)
-  unfolding refusalOf
-  clear = or-none (checksOf D (g .first) rain s p m m m) (overOf D rain s p m) done
-
-  ready : WorkOk D rain s p m m m
-  ready = work-ok D (g .first) rain s p m m m (clear .0)
-
-  groups : (runChecks D (g .first) rain s m m m .number ≡ 0) × ((listChecks D s .number ≡ 0) × (pondChecks h p .number ≡ 0))
-  unfolding checksOf
-  groups =
-      let one = or-none (runChecks D (g .first) rain s m m m) (orElse (listChecks D s) (pondChecks h p)) (clear .0) in
-      (one .0, or-none (listChecks D s) (pondChecks h p) (one .1))
-
-  all-pass : passed h p empty vs ≡ length vs
+  all-in : passed h p empty vs ≡ length vs
   unfolding overCheck
-  all-pass = over-none h p empty vs (go (eqb (overRow h p empty vs) 0) refl (clear .1))
+  all-in = over-none h p empty vs (go (eqb (overRow h p empty vs) 0) refl (two .1 .0))
     where
       go : (b : Bool) → eqb (overRow h p empty vs) 0 ≡ b → pick b none (refuse 14 (overRow h p empty vs)) .number ≡ 0 → overRow h p empty vs ≡ 0
       go true t q = eqb-true (overRow h p empty vs) 0 t
       go false t q = absurd (omega arith)
 
-  module _ (k : ℕ) (r : List ℕ) (listed : 1 ≤ k) (last : k ≤ count s) (whole : length r ≡ width) where
-    place : PlaceOk s k r
-    place = record { records = ready .list .records; listed = listed; last = last; whole = whole }
+  module _ (k : ℕ) (r : List ℕ) (listed : 1 ≤ k) (last : k ≤ recordsIn (x .subareas)) (whole : length r ≡ width) where
+    place : PlaceOk (x .subareas) k r
+    place = record { records = ready .basin .list .records; listed = listed; last = last; whole = whole }
 
-    abbrev new : List ℕ
-    new = altered s k r
+    abbrev new : Site
+    new = alteredSite x k r
 
     abbrev ws : List ℕ
-    ws = newInflow (g .step) rain s k r (inflowRows (g .step) rain s m)
+    ws = newInflowOf x l k r
 
-    abbrev a : ℕ
-    a = firstChanged (inflowRows (g .step) rain s m) (newInflow (g .step) rain s k r (inflowRows (g .step) rain s m))
+    -- the new inflow rows are the altered site's
+    ws-are : newInflow x k r (inflowOf x l) ≡ inflowOf (alteredSite x k r) l
+    ws-are = new-is x k r (length (l .inflow)) place
 
-    ws-is : ws ≡ inflowRows D rain new m
-    ws-is = new-is D rain s k r m place
+    ws-is : newInflowOf x l k r ≡ inflowOf (alteredSite x k r) l
+    ws-is = ap (λ (z : Rows). newInflow x k r (z .inflow)) rows-are ∙ ws-are
 
     ws-long : length ws ≡ length vs
-    ws-long = ap length ws-is ∙ rows-length (inflowAt D rain new) 1 m ∙ sym rows-long
+    ws-long =
+        ap length ws-is
+        ∙ rows-length (inflowAt (x .setup) (x .rain) (altered (x .subareas) k r)) 1 (length (l .inflow))
+        ∙ sym (rows-length (inflowAt (x .setup) (x .rain) (x .subareas)) 1 (length (l .inflow)))
 
     -- 5 counts as many records
-    run-same : runChecks D (g .first) rain new m m m ≡ runChecks D (g .first) rain s m m m
-    unfolding runChecks recordsGood
-    run-same = rw (altered-length s k r place)
+    run-same : runLines x l ≡ runLines new l
+    unfolding recordsGood
+    run-same = rw (altered-length (x .subareas) k r place)
 
-    sixteen : firstOf 16 (firstUnfit (partOf D rain (oldRecord s k)) vs) (length vs) ≡ none
-    sixteen = rw (fit-all D rain s k r m place (ready .raining) (ready .list), le-ltb (length vs) (length vs) (omega arith))
+    listed-passes : unless 15 (placeGood (x .subareas) k) .number ≡ 0
+    unfolding placeGood
+    listed-passes = ap (λ (b : Bool). unless 15 b .number) (keeps 1 k (recordsIn (x .subareas)) listed last)
 
-    seventeen : firstOf 17 (firstForged h p os ss) (length os) ≡ none
+    sixteen : unfitOf x l k ≡ none
+    sixteen =
+        ap (λ (z : Rows). unfitOf x z k) rows-are
+        ∙ rw (fit-all x k r (length (l .inflow)) place (ready .basin .run .raining) (ready .basin .list), le-ltb (length vs) (length vs) (omega arith))
+
+    seventeen : forgedLine (x .setup) (x .pond) l ≡ none
     seventeen =
-        let few : length vs ≤ 2000 = omega (arith, rows-long, ready .most) in
-        let e = routed-pass (ready .pond) vs all-pass few in
-        rw (e, out-long, rows-long, le-ltb m m (omega arith))
+        let few : length vs ≤ mostRows = omega (arith, rows-length (inflowAt (x .setup) (x .rain) (x .subareas)) 1 (length (l .inflow)), ready .basin .run .lengths .most) in
+        ap (λ (z : Rows). forgedLine (x .setup) (x .pond) z) rows-are ∙ rw (routed-pass (ready .pond) vs all-in few, column-length h p outflowOf empty vs, le-ltb (length vs) (length vs) (omega arith))
 
-    fourteen : overFrom h p os ss ws a ≡ overOf D rain new p m
-    fourteen = over-from h p vs ws a all-pass (changed-most vs ws) ws-long (changed-front vs ws ws-long) ∙ ap (overCheck h p) ws-is
+    fourteen : overFrom h p l ws ≡ overOf new l
+    fourteen = ap (λ (z : Rows). overFrom h p z ws) rows-are ∙ over-from h p vs ws all-in ws-long ∙ ap (overCheck h p) ws-is
 
-    lists-same : listsRefusal g rain s p m m m k r ≡ orElse (listChecks D new) (pondChecks h p)
-    unfolding listsRefusal placeGood
-    lists-same =
-        or-second (runChecks D (g .first) rain s m m m) _ (groups .0)
-        ∙ or-second (unless 15 (placeGood s k)) _ (ap (λ (b : Bool). unless 15 b .number) (keeps 1 k (count s) listed last))
-        ∙ or-second (listChecks D s) _ (groups .1 .0)
-
-    checks-same : checksOf D (g .first) rain new p m m m ≡ orElse (listChecks D new) (pondChecks h p)
-    unfolding checksOf
-    checks-same = or-second (runChecks D (g .first) rain new m m m) _ (ap (λ (v : Refusal). v .number) run-same ∙ groups .0)
-
-    rows-same : rowsRefusal D rain s p vs os ss k r ≡ overOf D rain new p m
-    unfolding rowsRefusal
-    rows-same = or-same sixteen (or-same seventeen fourteen)
-
-    -- the first refusal of the edit is that of a study of the altered list
-    pub refusal-same : editRefusal g rain s p vs os ss k r ≡ refusalOf g rain new p m m m
-    unfolding editRefusal refusalOf
+    -- the first refusal of the edit is that of a study of the altered site
+    refusal-same : editRefusal x l k r ≡ studyRefusal new l
+    unfolding editRefusal studyRefusal
     refusal-same =
-        or-same
-        (ap (λ (z : ℕ). listsRefusal g rain s p z (length os) (length ss) k r) rows-long
-        ∙ ap (λ (z : ℕ). listsRefusal g rain s p m z (length ss) k r) out-long
-        ∙ ap (λ (z : ℕ). listsRefusal g rain s p m m z k r) held-long
-        ∙ lists-same
-        ∙ sym checks-same)
-        rows-same
+        let stands = listLines (x .setup) (x .subareas) in
+        let mid = listLines (x .setup) (altered (x .subareas) k r) ++ pondLines (x .setup) p in
+        let run = both-pass (runLines x l) (stands ++ pondLines (x .setup) p) (two .0) in
+        sym (past (runLines x l) _ _ (run .0))
+        ∙ sym (past (unless 15 (placeGood (x .subareas) k) ∷ []) _ _ (listed-passes, tt))
+        ∙ sym (past stands _ _ (both-pass stands (pondLines (x .setup) p) (run .1) .0))
+        ∙ ap (λ (z : Refusal). firstRefusal (mid ++ (z ∷ forgedLine (x .setup) (x .pond) l ∷ overFrom h p l ws ∷ []))) sixteen
+        ∙ ap (λ (z : Refusal). firstRefusal (mid ++ (none ∷ z ∷ overFrom h p l ws ∷ []))) seventeen
+        ∙ ap (λ (z : Refusal). firstRefusal (mid ++ (none ∷ none ∷ z ∷ []))) fourteen
+        ∙ skipped mid (overOf new l)
+        ∙ past (runLines new l) _ _ (subst (λ (z : List Refusal). AllPass z) run-same (run .0))
 
     -- and where nothing is refused, its rows are that study's
-    outflow-same : outflowsFrom h p os ss ws a ≡ outflowRows D rain new p m
-    outflow-same = edit-is-new h p outflowOf a vs ws (changed-most vs ws) (changed-front vs ws ws-long) ∙ ap (outflows h p empty) ws-is
+    rows-same : newRows x l k r ≡ routed h p (inflowOf new l)
+    rows-same =
+        let n = routed h p vs in
+        let front = changed-front vs ws ws-long in
+        ap (λ (z : Rows). rerouted h p z ws) rows-are
+        ∙ rows-equal {a = rerouted h p n ws} {b = routed h p (inflowOf new l)}
+        ws-is
+        (edit-is-new h p outflowOf (firstChanged vs ws) vs ws (changed-most vs ws) front ∙ ap (outflows h p empty) ws-is)
+        (edit-is-new h p storageOf (firstChanged vs ws) vs ws (changed-most vs ws) front ∙ ap (storages h p empty) ws-is)
 
-    storage-same : storagesFrom h p os ss ws a ≡ storageRows D rain new p m
-    storage-same = edit-is-new h p storageOf a vs ws (changed-most vs ws) (changed-front vs ws ws-long) ∙ ap (storages h p empty) ws-is
-
-    figures-same : editedOf h (classesAll new) p vs os ss ws .figures ≡ figuresAll h new p (inflowRows D rain new m)
-    unfolding editedOf
-    figures-same =
-        ap (λ (z : List ℕ). figuresWith (classesAll new) (figuresOf h p ws z (storagesFrom h p os ss ws a))) outflow-same
-        ∙ ap (λ (z : List ℕ). figuresWith (classesAll new) (figuresOf h p ws (outflowRows D rain new p m) z)) storage-same
-        ∙ ap (λ (z : List ℕ). figuresWith (classesAll new) (figuresOf h p z (outflowRows D rain new p m) (storageRows D rain new p m))) ws-is
-
-    -- what a study answers and leaves, of the altered list and the same lists lent
-    pub answer-same : studyIn (editAnswer g rain s p vs os ss k r) ≡ answerOf g rain new p m m m
-    unfolding editAnswer answerOf
-    answer-same = rw refusal-same (go (passes (refusalOf g rain new p m m m)))
+    pub edit-of : EditIsStudy x l k r
+    unfolding editAnswer editRows studyAnswer studyRows editedOf
+    edit-of =
+        record {
+          answers = rw refusal-same (go (eqb (studyRefusal new l .number) 0));
+          rows = rw refusal-same (ap (λ (n : Rows). after (studyRefusal new l) n l) rows-same);
+        }
       where
-        go : (b : Bool) → studyIn (pick b (Done (editedOf h (classesAll new) p vs os ss ws)) (Refused (refusalOf g rain new p m m m)))
-            ≡ pick b (Study.Done (figuresAll h new p (inflowRows D rain new m))) (Study.Refused (refusalOf g rain new p m m m))
-        go true = ap Study.Done figures-same
+        go : (b : Bool) → studyIn (pick b (Done (editDone x l k r)) (Refused (studyRefusal new l)))
+            ≡ pick b (Study.Done (figuresAll h (altered (x .subareas) k r) p (inflowOf new l))) (Study.Refused (studyRefusal new l))
+        go true = ap (λ (n : Rows). Study.Done (figuresWith (classesAll (altered (x .subareas) k r)) (figuresIn h p n))) rows-same
         go false = refl
-
-    pub inflow-left : inflowAfter g rain s p vs os ss k r ≡ after (refusalOf g rain new p m m m) (inflowRows D rain new m) vs
-    unfolding inflowAfter
-    inflow-left = rw (refusal-same, ws-is)
-
-    pub outflow-left : outflowAfter g rain s p vs os ss k r ≡ after (refusalOf g rain new p m m m) (outflowRows D rain new p m) os
-    unfolding outflowAfter
-    outflow-left = rw (refusal-same, outflow-same)
-
-    pub storage-left : storageAfter g rain s p vs os ss k r ≡ after (refusalOf g rain new p m m m) (storageRows D rain new p m) ss
-    unfolding storageAfter
-    storage-left = rw (refusal-same, storage-same)

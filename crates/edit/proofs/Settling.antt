@@ -1,6 +1,6 @@
--- What 14 decides of an edit. Assumes nothing.
-use mathlib.Core.Path.{_≡_}
-use mathlib.Core.List.{List}
+-- What each group of an edit's refusals decides, and where it leaves the answer to the next: the checks up to 13, 16 and 17, and 14. Assumes nothing.
+use mathlib.Core.Path.{_≡_, sym, _∙_}
+use mathlib.Core.List.{List, [], _∷_}
 use Prim.Native.Nat.{ℕ, _+_, _≤_}
 use native.Mathlib.Omega.{arith}
 use borrow.Author.Tests.{eq-eqb, ne-eqb, ltb-true}
@@ -10,12 +10,17 @@ use Rattle.laws.proofs.Tests.{by-test}
 use Rattle.curve.specs.declared.Classes.{Classes}
 use Rattle.pond.specs.declared.State.{State}
 use Rattle.rows.specs.Routing.{passed, overRow, stateBefore}
-use Rattle.study.specs.Refusals.{refuse, none}
-use Rattle.study.specs.Study.{after}
+use Rattle.refusals.specs.declared.Refusal.{Refusal}
+use Rattle.checks.specs.Site.{Site, Rows}
+use Rattle.refusals.specs.Refusals.{refuse, firstAfter, firstRefusal}
+use Rattle.subarea.specs.Records.{halfOf}
+use Rattle.study.specs.Study.{classesAll}
+use Rattle.refusals.proofs.Orders.{stops, goes-on}
+use Rattle.alter.specs.Altering.{altered, newInflowOf, firstChanged, editCheckLines}
+use Rattle.edit.specs.declared.EditAnswer.{EditAnswer}
 use Rattle.edit.specs.declared.EditAnswer.the-variants.{Refused, Done}
-use Rattle.edit.specs.Altering.{firstChanged}
-use Rattle.edit.specs.Refusals.{overFrom}
-use Rattle.edit.specs.Edit.{editedOf, settledFrom}
+use Rattle.edit.specs.Edit.{overFrom, rowLines, editRefusal, rerouted, editedOf, editAnswer, editRows}
+use Rattle.edit.specs.Needs.{foundLines, settledFrom, settledRowsFrom, rowsRefusal, refitted, refittedRows}
 
 -- the row that goes over is one of the rows
 pub over-most : (h : ℕ) (p : List ℕ) (st : State) (vs : List ℕ) → overRow h p st vs ≤ length vs
@@ -23,33 +28,61 @@ unfolding overRow
 over-most h p st vs =
     by-test (λ (z : ℕ). z ≤ length vs) (ltb (passed h p st vs) (length vs)) (passed h p st vs + 1) 0 (λ t. omega (arith, ltb-true (passed h p st vs) (length vs) t)) (λ t. omega arith)
 
-module _ (h : ℕ) (p vs os ss ws : List ℕ) where
+module _ (h : ℕ) (p : List ℕ) (l : Rows) (ws : List ℕ) (c : Classes) where
   abbrev a : ℕ
-  a = firstChanged vs ws
+  a = firstChanged (l .inflow) ws
 
   abbrev over : ℕ
-  over = overRow h p (stateBefore os ss (firstChanged vs ws)) (drop (firstChanged vs ws) ws)
+  over = overRow h p (stateBefore (l .outflow) (l .storage) (firstChanged (l .inflow) ws)) (drop (firstChanged (l .inflow) ws) ws)
 
-  over-is : (over ≡ 0 → ⊥) → overFrom h p os ss ws a ≡ refuse 14 (a + over)
-  unfolding overFrom
-  over-is n = rw (ne-eqb over 0 n)
+  -- a row goes over: the answer is 14 and the row, and every list is as it was
+  pub over-stops : (over ≡ 0 → ⊥) → (Refused (refuse 14 (a + over)) ≡ settledFrom h c p l ws) × (l ≡ settledRowsFrom h p l ws)
+  unfolding settledFrom overFrom
+  over-stops n = let e = ne-eqb over 0 n in (rw e, rw e)
 
-  over-no : over ≡ 0 → overFrom h p os ss ws a ≡ none
-  unfolding overFrom
-  over-no e = rw (eq-eqb over 0 e)
+  -- none does: the answer is what is told of the rows then standing, and they are written
+  pub over-passes : over ≡ 0 → (Done (editedOf h c p l (rerouted h p l ws)) ≡ settledFrom h c p l ws) × (rerouted h p l ws ≡ settledRowsFrom h p l ws)
+  unfolding settledFrom overFrom
+  over-passes z = let e = eq-eqb over 0 z in (rw e, rw e)
 
-  -- a row goes over: every list is as it was, and the answer is 14 and the row
-  pub over-old : (over ≡ 0 → ⊥) → (new old : List ℕ) → old ≡ after (overFrom h p os ss ws a) new old
-  over-old n new old = rw (over-is n)
+module _ (x : Site) (l : Rows) (k : ℕ) (r : List ℕ) {v : Refusal} where
+  module _ (e : v ≡ firstRefusal (foundLines x l k)) where
+    abbrev fourteen : Refusal
+    fourteen = overFrom (halfOf (x .setup)) (x .pond) l (newInflowOf x l k r)
 
-  pub over-answer : (over ≡ 0 → ⊥) → (c : Classes) → Refused (refuse 14 (a + over)) ≡ settledFrom h c p vs os ss ws
-  unfolding settledFrom
-  over-answer n c = rw (over-is n)
+    -- 16 or 17 refuses
+    pub rows-stop : (v .number ≡ 0 → ⊥) → (Refused v ≡ refitted x l k r) × (l ≡ refittedRows x l k r)
+    unfolding refitted refittedRows rowsRefusal
+    rows-stop n =
+        let q = stops (foundLines x l k) (fourteen ∷ []) e n in
+        let f = ne-eqb (v .number) 0 n in
+        (rw (← q, f), rw (← q, f))
 
-  -- none does: the lists are written, and the answer is what is told of them
-  pub under-new : over ≡ 0 → (new old : List ℕ) → new ≡ after (overFrom h p os ss ws a) new old
-  under-new e new old = rw (over-no e)
+    -- neither does: it is left to 14
+    left-to-14 : v .number ≡ 0 → rowsRefusal x l k r ≡ fourteen
+    unfolding rowsRefusal firstAfter
+    left-to-14 z = sym (goes-on (foundLines x l k) fourteen [] e z)
 
-  pub under-answer : over ≡ 0 → (c : Classes) → Done (editedOf h c p vs os ss ws) ≡ settledFrom h c p vs os ss ws
-  unfolding settledFrom
-  under-answer e c = rw (over-no e)
+    -- so it is what 14 leaves, of class areas and new inflow rows that are those of the altered list
+    pub rows-pass : v .number ≡ 0 → {c : Classes} → c ≡ classesAll (altered (x .subareas) k r) → {ws : List ℕ} → ws ≡ newInflowOf x l k r → {y : EditAnswer} {n : Rows}
+        → y ≡ settledFrom (halfOf (x .setup)) c (x .pond) l ws → n ≡ settledRowsFrom (halfOf (x .setup)) (x .pond) l ws → (y ≡ refitted x l k r) × (n ≡ refittedRows x l k r)
+    unfolding refitted refittedRows settledFrom
+    rows-pass z ce we p q = ((rw (ce, we) at p) ∙ rw (left-to-14 z), (rw we at q) ∙ rw (left-to-14 z))
+
+  module _ (e : v ≡ firstRefusal (editCheckLines x l k r)) where
+    -- a check up to 13 refuses: so does the edit, and every list is as it was
+    pub checks-stop : (v .number ≡ 0 → ⊥) → (Refused v ≡ editAnswer x l k r) × (l ≡ editRows x l k r)
+    unfolding editAnswer editRows editRefusal
+    checks-stop n =
+        let q = stops (editCheckLines x l k r) (rowLines x l k r) e n in
+        let f = ne-eqb (v .number) 0 n in
+        (rw (← q, f), rw (← q, f))
+
+    -- none does: it is left to the rows
+    left-to-rows : v .number ≡ 0 → editRefusal x l k r ≡ rowsRefusal x l k r
+    unfolding editRefusal rowsRefusal
+    left-to-rows z = sym (goes-on (editCheckLines x l k r) _ _ e z)
+
+    pub checks-pass : v .number ≡ 0 → (refitted x l k r ≡ editAnswer x l k r) × (refittedRows x l k r ≡ editRows x l k r)
+    unfolding editAnswer editRows refitted refittedRows
+    checks-pass z = (rw (left-to-rows z), rw (left-to-rows z))

@@ -1,32 +1,71 @@
--- What an edit answers, and what it leaves in the row lists.
-use mathlib.Core.Path.{_≡_}
-use mathlib.Core.Bool.{true}
-use mathlib.Core.List.{List}
-use Prim.Native.Nat.{ℕ, _/_, _≤_, _<_}
+-- Document 01, an edit: refusals 16, 17 and 14, the order of all, what an edit answers, and the rows that it leaves.
+-- Letters as in alter's definitions.
+use mathlib.Core.Bool.{Bool, _&&_}
+use mathlib.Core.List.{List, [], _∷_, _++_}
+use Prim.Native.Nat.{ℕ, _+_}
 use lib.IntN.{ℤ, pos, _-ℤ_}
-use lib.ListN.{length}
+use lib.ListN.{length, drop}
+use lib.Dec.{leb, eqb}
 use Rattle.laws.specs.Pick.{pick}
+use Rattle.laws.specs.Scan.{scan}
+use Rattle.laws.specs.Limits.{mostInflow}
 use Rattle.curve.specs.declared.Classes.{Classes}
-use Rattle.pond.specs.PondRows.{PondOk}
-use Rattle.hydrograph.specs.InflowRows.{mostArea, RainOk}
-use Rattle.rows.specs.Routing.{InflowOk}
-use Rattle.rows.specs.Standing.{at, figuresOf, RowsOk}
+use Rattle.rows.specs.Routing.{overRow, stateBefore}
+use Rattle.rows.specs.Figures.{at, figuresOf}
 use Rattle.rows.specs.declared.RowFigures.{RowFigures}
-use Rattle.study.specs.declared.Setup.{Setup}
-use Rattle.study.specs.declared.Refusal.{Refusal}
-use Rattle.study.specs.Records.{areaOf, patchesPass}
-use Rattle.study.specs.Refusals.{refuse, AllPatches}
-use Rattle.study.specs.Study.{classesAll, figuresWith, passes, nothing, after, RecordOk, ListOk}
+use Rattle.refusals.specs.declared.Refusal.{Refusal}
+use Rattle.checks.specs.Site.{Site, Rows}
+use Rattle.refusals.specs.Refusals.{refuse, none, firstOf, firstRefusal, after}
+use Rattle.subarea.specs.Records.{halfOf}
+use Rattle.checks.specs.Order.{forgedLine}
+use Rattle.study.specs.Study.{classesAll, figuresWith, noFigures}
+use Rattle.alter.specs.Altering.{altered, oldPart, newInflowOf, firstChanged, changedRow, outflowsFrom, storagesFrom, editCheckLines}
 use Rattle.edit.specs.declared.Edited.{Edited}
 use Rattle.edit.specs.declared.EditAnswer.{EditAnswer}
 use Rattle.edit.specs.declared.EditAnswer.the-variants.{Refused, Done}
-use Rattle.edit.specs.Altering.{altered, newInflow, firstChanged, changedRow, outflowsFrom, storagesFrom}
-use Rattle.edit.specs.Fresh.{PlaceOk}
-use Rattle.edit.specs.Refusals.{mostInflow, overFrom, rowsRefusal, editRefusal}
 
--- the figures of the rows then standing
-abbrev pub figuresFrom : ℕ → List ℕ → List ℕ → List ℕ → List ℕ → ℕ → RowFigures
-figuresFrom h p os ss ws a = figuresOf h p ws (outflowsFrom h p os ss ws a) (storagesFrom h p os ss ws a)
+-- 16: an inflow row v is not below the old part f, and not above 217,800,000,000
+unfoldable pub inflowFits : ℕ → ℕ → Bool
+inflowFits f v = leb f v && leb v mostInflow
+
+-- the first row, from 0, that fails it, or their number; f is the old record's part of a row
+abbrev pub firstUnfit : (ℕ → ℕ) → List ℕ → ℕ
+firstUnfit f vs = scan (λ i. inflowFits (f (i + 1)) (at vs i)) (length vs) 0
+
+abbrev pub unfitOf : Site → Rows → ℕ → Refusal
+unfitOf x l k = firstOf 16 (firstUnfit (oldPart x k) (l .inflow)) (length (l .inflow))
+
+-- 14: of the rows from the first changed one on; the place counts from row 1 of the lists
+unfoldable pub overFrom : ℕ → List ℕ → Rows → List ℕ → Refusal
+overFrom h p l ws =
+    let a = firstChanged (l .inflow) ws in
+    let over = overRow h p (stateBefore (l .outflow) (l .storage) a) (drop a ws) in
+    pick (eqb over 0) none (refuse 14 (a + over))
+
+-- 16, 17 and 14
+abbrev pub rowLines : Site → Rows → ℕ → List ℕ → List Refusal
+rowLines x l k r = unfitOf x l k ∷ forgedLine (x .setup) (x .pond) l ∷ overFrom (halfOf (x .setup)) (x .pond) l (newInflowOf x l k r) ∷ []
+
+-- document 01's order of an edit, line by line
+abbrev pub editLines : Site → Rows → ℕ → List ℕ → List Refusal
+editLines x l k r = editCheckLines x l k r ++ rowLines x l k r
+
+-- the first refusal of an edit
+unfoldable pub editRefusal : Site → Rows → ℕ → List ℕ → Refusal
+editRefusal x l k r = firstRefusal (editLines x l k r)
+
+-- the rows then standing: the new inflow rows, and the pond routed from the first changed row on
+abbrev pub rerouted : ℕ → List ℕ → Rows → List ℕ → Rows
+rerouted h p l ws =
+    let a = firstChanged (l .inflow) ws in
+    record { inflow = ws; outflow = outflowsFrom h p (l .outflow) (l .storage) ws a; storage = storagesFrom h p (l .outflow) (l .storage) ws a }
+
+abbrev pub newRows : Site → Rows → ℕ → List ℕ → Rows
+newRows x l k r = rerouted (halfOf (x .setup)) (x .pond) l (newInflowOf x l k r)
+
+-- the figures of rows
+abbrev pub figuresIn : ℕ → List ℕ → Rows → RowFigures
+figuresIn h p l = figuresOf h p (l .inflow) (l .outflow) (l .storage)
 
 -- new less old, with its sign
 abbrev pub change : ℕ → ℕ → ℤ
@@ -42,97 +81,33 @@ told c f o row =
       released = change (f .kept .released) (o .kept .released);
     }
 
--- a done edit of inflow rows vs to ws: figures of the rows then standing, the first changed row, and the changes
-unfoldable pub editedOf : ℕ → Classes → List ℕ → List ℕ → List ℕ → List ℕ → List ℕ → Edited
-editedOf h c p vs os ss ws =
-    told c (figuresFrom h p os ss ws (firstChanged vs ws)) (figuresOf h p vs os ss) (changedRow vs ws)
+-- of rows l that became rows n: the figures then standing, the first changed row, and the changes
+unfoldable pub editedOf : ℕ → Classes → List ℕ → Rows → Rows → Edited
+editedOf h c p l n = told c (figuresIn h p n) (figuresIn h p l) (changedRow (l .inflow) (n .inflow))
 
--- what an edit answers: class areas are those of the altered list
-unfoldable pub editAnswer : Setup → List ℕ → List ℕ → List ℕ → List ℕ → List ℕ → List ℕ → ℕ → List ℕ → EditAnswer
-editAnswer g rain s p vs os ss k r =
-    pick (passes (editRefusal g rain s p vs os ss k r))
-    (Done (editedOf (g .step / 2) (classesAll (altered s k r)) p vs os ss (newInflow (g .step) rain s k r vs)))
-    (Refused (editRefusal g rain s p vs os ss k r))
+-- the values of a done edit: class areas are those of the altered list
+abbrev pub editDone : Site → Rows → ℕ → List ℕ → Edited
+editDone x l k r = editedOf (halfOf (x .setup)) (classesAll (altered (x .subareas) k r)) (x .pond) l (newRows x l k r)
 
--- the three lists after an edit
-unfoldable pub inflowAfter : Setup → List ℕ → List ℕ → List ℕ → List ℕ → List ℕ → List ℕ → ℕ → List ℕ → List ℕ
-inflowAfter g rain s p vs os ss k r = after (editRefusal g rain s p vs os ss k r) (newInflow (g .step) rain s k r vs) vs
+-- what an edit answers, and the rows that it leaves
+unfoldable pub editAnswer : Site → Rows → ℕ → List ℕ → EditAnswer
+editAnswer x l k r = after (editRefusal x l k r) (Done (editDone x l k r)) (Refused (editRefusal x l k r))
 
-unfoldable pub outflowAfter : Setup → List ℕ → List ℕ → List ℕ → List ℕ → List ℕ → List ℕ → ℕ → List ℕ → List ℕ
-outflowAfter g rain s p vs os ss k r =
-    let ws = newInflow (g .step) rain s k r vs in
-    after (editRefusal g rain s p vs os ss k r) (outflowsFrom (g .step / 2) p os ss ws (firstChanged vs ws)) os
-
-unfoldable pub storageAfter : Setup → List ℕ → List ℕ → List ℕ → List ℕ → List ℕ → List ℕ → ℕ → List ℕ → List ℕ
-storageAfter g rain s p vs os ss k r =
-    let ws = newInflow (g .step) rain s k r vs in
-    after (editRefusal g rain s p vs os ss k r) (storagesFrom (g .step / 2) p os ss ws (firstChanged vs ws)) ss
+unfoldable pub editRows : Site → Rows → ℕ → List ℕ → Rows
+editRows x l k r = after (editRefusal x l k r) (newRows x l k r) l
 
 -- the number, the place and the values that an answer has in document 01: 0 and 0 when done, every value 0 when refused
 abbrev pub editRefusalIn : EditAnswer → Refusal
 editRefusalIn (Refused v) = v
-editRefusalIn (Done e) = refuse 0 0
+editRefusalIn (Done e) = none
 
 abbrev pub editNothing : Edited
-editNothing = record { figures = nothing; changed = 0; peak = pos 0; released = pos 0 }
+editNothing = record { figures = noFigures; changed = 0; peak = pos 0; released = pos 0 }
 
 abbrev pub editValuesIn : EditAnswer → Edited
 editValuesIn (Refused v) = editNothing
 editValuesIn (Done e) = e
 
 -- the values of an edit's answer
-unfoldable pub editValues : Setup → List ℕ → List ℕ → List ℕ → List ℕ → List ℕ → List ℕ → ℕ → List ℕ → Edited
-editValues g rain s p vs os ss k r =
-    pick (passes (editRefusal g rain s p vs os ss k r)) (editedOf (g .step / 2) (classesAll (altered s k r)) p vs os ss (newInflow (g .step) rain s k r vs)) editNothing
-
--- what is left of the answer after the checks before 16, and after 17
-unfoldable pub worked : ℕ → List ℕ → List ℕ → List ℕ → List ℕ → List ℕ → List ℕ → ℕ → List ℕ → EditAnswer
-worked D rain s p vs os ss k r =
-    pick (passes (rowsRefusal D rain s p vs os ss k r))
-    (Done (editedOf (D / 2) (classesAll (altered s k r)) p vs os ss (newInflow D rain s k r vs)))
-    (Refused (rowsRefusal D rain s p vs os ss k r))
-
-unfoldable pub settledFrom : ℕ → Classes → List ℕ → List ℕ → List ℕ → List ℕ → List ℕ → EditAnswer
-settledFrom h c p vs os ss ws =
-    pick (passes (overFrom h p os ss ws (firstChanged vs ws))) (Done (editedOf h c p vs os ss ws)) (Refused (overFrom h p os ss ws (firstChanged vs ws)))
-
--- what the checks before 16 leave
-pub record EditOk (D : ℕ) (rain s p : List ℕ) (m o t k : ℕ) (r : List ℕ) : Type 0 where
-  pub pond : PondOk (D / 2) p
-  pub list : ListOk D s
-  pub place : PlaceOk s k r
-  pub fresh : RecordOk D r
-  pub area : areaOf r ≤ mostArea
-  pub raining : RainOk rain
-  pub least : 1 ≤ m
-  pub most : m ≤ 2000
-  pub out-long : o ≡ m
-  pub held-long : t ≡ m
-
--- what 16 and 17 leave: inflow rows as found and new that leave room, rows that can be the pond's
-pub record RowsFit (h : ℕ) (p vs os ss ws : List ℕ) : Type 0 where
-  pub pond : PondOk h p
-  pub found : InflowOk vs
-  pub new : InflowOk ws
-  pub rows : RowsOk h p os ss
-  pub least : 1 ≤ length vs
-  pub new-long : length ws ≡ length vs
-  pub out-long : length os ≡ length vs
-
--- inflow rows vs that 16 passes, fs being the old record's parts
-pub record PartsOk (vs fs : List ℕ) : Type 0 where
-  pub long : length fs ≡ length vs
-  pub few : length vs ≤ 2000
-  pub least : (i : ℕ) → i < length vs → at fs i ≤ at vs i
-  pub most : (i : ℕ) → i < length vs → at vs i ≤ mostInflow
-
--- a list and a fresh record whose class areas can be summed
-pub record GroundOk (s : List ℕ) (k : ℕ) (r : List ℕ) : Type 0 where
-  pub place : PlaceOk s k r
-  pub patched : AllPatches s
-  pub fresh : patchesPass r ≡ true
-
--- figures whose difference has room
-pub record SmallOk (f : RowFigures) : Type 0 where
-  pub peak-most : f .kept .peak ≤ 1000000000000000000
-  pub released-most : f .kept .released ≤ 1000000000000000000
+unfoldable pub editValues : Site → Rows → ℕ → List ℕ → Edited
+editValues x l k r = after (editRefusal x l k r) (editDone x l k r) editNothing

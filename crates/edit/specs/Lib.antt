@@ -1,5 +1,3 @@
-pub mod Altering
-pub mod Fresh
-pub mod Refusals
 pub mod Edit
 pub mod Standing
+pub mod Needs

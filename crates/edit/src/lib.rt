@@ -1,25 +1,24 @@
 // An edit on flat numbers: one subarea of a list replaced, and the rows that stand on the list altered to match.
 // Units: rain in thousandths of an inch, inflow volumes and storage in thousandths of a cubic foot, outflow in thousandths
 // of a cfs; half is half the step, in seconds; a place counts the subareas from 1.
-mod alter;
-mod checks;
+mod fit;
 
+use laws::limits;
+use refusals::Refusal;
 use rows::Dry;
 use rows::RowFigures;
 use study::Figures;
-use study::Refusal;
-use study::Setup;
-use study::subarea;
+use subarea::Setup;
 ghost use mathlib.Core.Path.{_≡_};
-ghost use Prim.Native.Nat.{_-_, _/_, _≤_};
+ghost use Prim.Native.Nat.{_-_, _≤_};
 ghost use lib.ListN.{length, drop};
-ghost use Rattle.pond.specs.PondRows.{PondOk};
-ghost use Rattle.rows.specs.Routing.{passed, dryOf, stateBefore, InflowOk};
-ghost use Rattle.rows.specs.Standing.{RowsOk};
-ghost use Rattle.study.specs.Study.{after};
-ghost use Rattle.edit.specs.Altering.{altered, newInflow, firstChanged, changedAt, outflowsFrom, storagesFrom};
-ghost use Rattle.edit.specs.Refusals.{overFrom, rowsRefusal, editRefusal};
-ghost use Rattle.edit.specs.Edit.{change, told, editedOf, settledFrom, worked, editAnswer, inflowAfter, outflowAfter, storageAfter, editRefusalIn, editValuesIn, editValues, EditOk, RowsFit, SmallOk};
+ghost use Rattle.pond.specs.Needs.{PondOk};
+ghost use Rattle.rows.specs.Routing.{passed, stateBefore};
+ghost use Rattle.rows.specs.Needs.{dryOf, InflowOk, RowsOk};
+ghost use Rattle.checks.specs.Site.{siteNow, rowsNow, site, found, left};
+ghost use Rattle.alter.specs.Altering.{firstChanged, changedAt};
+ghost use Rattle.edit.specs.Edit.{rerouted, change, told, editedOf, editRefusal, editAnswer, editRows, editRefusalIn, editValuesIn, editValues};
+ghost use Rattle.edit.specs.Needs.{settledFrom, settledRowsFrom, refitted, refittedRows, EditOk, RowsFit, SmallOk};
 
 // The figures over the rows then standing, the first changed row (from 1; 0 if none), and the changes of peak outflow and
 // of total released, new less old.
@@ -76,12 +75,10 @@ fn finish(
     a: usize,
     classes: curve::Classes,
 ) -> Edited
-    requires { ⌜ RowsFit half (now pond) (now inflow) (now outflow) (now storage) (now new) × ((a ≡ firstChanged (now inflow) (now new)) × ((a ≤ length (now new)) × (a ≤ length (now inflow)))) ⌝ }
+    requires { ⌜ RowsFit half (now pond) (rowsNow inflow outflow storage) (now new) × ((a ≡ firstChanged (now inflow) (now new)) × ((a ≤ length (now new)) × (a ≤ length (now inflow)))) ⌝ }
     requires { ⌜ passed half (now pond) (stateBefore (now outflow) (now storage) a) (drop a (now new)) ≡ length (now new) - a ⌝ }
-    ensures { λ r. ⌜ r ≡ editedOf half classes (now (pond .entry)) (now (inflow .entry)) (now (outflow .entry)) (now (storage .entry)) (now (new .entry)) ⌝ }
-    ensures { λ _. ⌜ now (inflow .exit) ≡ now (new .entry) ⌝ }
-    ensures { λ _. ⌜ now (outflow .exit) ≡ outflowsFrom half (now (pond .entry)) (now (outflow .entry)) (now (storage .entry)) (now (new .entry)) a ⌝ }
-    ensures { λ _. ⌜ now (storage .exit) ≡ storagesFrom half (now (pond .entry)) (now (outflow .entry)) (now (storage .entry)) (now (new .entry)) a ⌝ }
+    ensures { λ r. ⌜ r ≡ editedOf half classes (now (pond .entry)) (found inflow outflow storage) (rerouted half (now (pond .entry)) (found inflow outflow storage) (now (new .entry))) ⌝ }
+    ensures { λ _. ⌜ left inflow outflow storage ≡ rerouted half (now (pond .entry)) (found inflow outflow storage) (now (new .entry)) ⌝ }
 {
     let old = rows::figures_of(pond, half, inflow, outflow, storage);
     study::copy(&new[a..], &mut inflow[a..]);
@@ -110,11 +107,9 @@ fn settle(
     storage: &mut [u64],
     classes: curve::Classes,
 ) -> EditAnswer
-    requires { ⌜ RowsFit half (now pond) (now inflow) (now outflow) (now storage) (now new) ⌝ }
-    ensures { λ r. ⌜ r ≡ settledFrom half classes (now (pond .entry)) (now (inflow .entry)) (now (outflow .entry)) (now (storage .entry)) (now (new .entry)) ⌝ }
-    ensures { λ _. ⌜ now (inflow .exit) ≡ after (overFrom half (now (pond .entry)) (now (outflow .entry)) (now (storage .entry)) (now (new .entry)) (firstChanged (now (inflow .entry)) (now (new .entry)))) (now (new .entry)) (now (inflow .entry)) ⌝ }
-    ensures { λ _. ⌜ now (outflow .exit) ≡ after (overFrom half (now (pond .entry)) (now (outflow .entry)) (now (storage .entry)) (now (new .entry)) (firstChanged (now (inflow .entry)) (now (new .entry)))) (outflowsFrom half (now (pond .entry)) (now (outflow .entry)) (now (storage .entry)) (now (new .entry)) (firstChanged (now (inflow .entry)) (now (new .entry)))) (now (outflow .entry)) ⌝ }
-    ensures { λ _. ⌜ now (storage .exit) ≡ after (overFrom half (now (pond .entry)) (now (outflow .entry)) (now (storage .entry)) (now (new .entry)) (firstChanged (now (inflow .entry)) (now (new .entry)))) (storagesFrom half (now (pond .entry)) (now (outflow .entry)) (now (storage .entry)) (now (new .entry)) (firstChanged (now (inflow .entry)) (now (new .entry)))) (now (storage .entry)) ⌝ }
+    requires { ⌜ RowsFit half (now pond) (rowsNow inflow outflow storage) (now new) ⌝ }
+    ensures { λ r. ⌜ r ≡ settledFrom half classes (now (pond .entry)) (found inflow outflow storage) (now (new .entry)) ⌝ }
+    ensures { λ _. ⌜ left inflow outflow storage ≡ settledRowsFrom half (now (pond .entry)) (found inflow outflow storage) (now (new .entry)) ⌝ }
 {
     let a = alter::first_changed(inflow, new);
     let dry = dry_tail(half, pond, new, outflow, storage, a);
@@ -129,7 +124,7 @@ fn settle(
 
 // What the checks before 16 leave to do; new is a list for the new inflow rows.
 fn refit(
-    step: u64,
+    setup: Setup,
     rain: &[u64],
     subareas: &[u64],
     pond: &[u64],
@@ -140,27 +135,25 @@ fn refit(
     fresh: &[u64],
     new: &mut [u64],
 ) -> EditAnswer
-    requires { ⌜ EditOk step (now rain) (now subareas) (now pond) (length (now inflow)) (length (now outflow)) (length (now storage)) place (now fresh) × (length (now new) ≡ length (now inflow)) ⌝ }
-    ensures { λ r. ⌜ r ≡ worked step (now (rain .entry)) (now (subareas .entry)) (now (pond .entry)) (now (inflow .entry)) (now (outflow .entry)) (now (storage .entry)) place (now (fresh .entry)) ⌝ }
-    ensures { λ _. ⌜ now (inflow .exit) ≡ after (rowsRefusal step (now (rain .entry)) (now (subareas .entry)) (now (pond .entry)) (now (inflow .entry)) (now (outflow .entry)) (now (storage .entry)) place (now (fresh .entry))) (newInflow step (now (rain .entry)) (now (subareas .entry)) place (now (fresh .entry)) (now (inflow .entry))) (now (inflow .entry)) ⌝ }
-    ensures { λ _. ⌜ now (outflow .exit) ≡ after (rowsRefusal step (now (rain .entry)) (now (subareas .entry)) (now (pond .entry)) (now (inflow .entry)) (now (outflow .entry)) (now (storage .entry)) place (now (fresh .entry))) (outflowsFrom (step / 2) (now (pond .entry)) (now (outflow .entry)) (now (storage .entry)) (newInflow step (now (rain .entry)) (now (subareas .entry)) place (now (fresh .entry)) (now (inflow .entry))) (firstChanged (now (inflow .entry)) (newInflow step (now (rain .entry)) (now (subareas .entry)) place (now (fresh .entry)) (now (inflow .entry))))) (now (outflow .entry)) ⌝ }
-    ensures { λ _. ⌜ now (storage .exit) ≡ after (rowsRefusal step (now (rain .entry)) (now (subareas .entry)) (now (pond .entry)) (now (inflow .entry)) (now (outflow .entry)) (now (storage .entry)) place (now (fresh .entry))) (storagesFrom (step / 2) (now (pond .entry)) (now (outflow .entry)) (now (storage .entry)) (newInflow step (now (rain .entry)) (now (subareas .entry)) place (now (fresh .entry)) (now (inflow .entry))) (firstChanged (now (inflow .entry)) (newInflow step (now (rain .entry)) (now (subareas .entry)) place (now (fresh .entry)) (now (inflow .entry))))) (now (storage .entry)) ⌝ }
+    requires { ⌜ EditOk (siteNow setup rain subareas pond) (rowsNow inflow outflow storage) place (now fresh) × (length (now new) ≡ length (now inflow)) ⌝ }
+    ensures { λ r. ⌜ r ≡ refitted (site setup rain subareas pond) (found inflow outflow storage) place (now (fresh .entry)) ⌝ }
+    ensures { λ _. ⌜ left inflow outflow storage ≡ refittedRows (site setup rain subareas pond) (found inflow outflow storage) place (now (fresh .entry)) ⌝ }
 {
     let a = subarea::WIDTH * (place as usize - 1);
     let e = a + subarea::WIDTH;
-    alter::fill_parts(step, rain, &subareas[a..e], new);
-    let v = checks::rows_checks(step / 2, pond, new, inflow, outflow, storage);
+    alter::fill_parts(setup, rain, &subareas[a..e], new);
+    let v = fit::rows_checks(setup, pond, new, inflow, outflow, storage);
     if v.number != 0 {
         return EditAnswer::Refused(v);
     }
-    alter::swap_parts(step, rain, fresh, inflow, new);
+    alter::swap_parts(setup, rain, fresh, inflow, new);
     let classes = alter::altered_classes(subareas, place, fresh);
-    settle(step / 2, pond, new, inflow, outflow, storage, classes)
+    settle(setup.step / 2, pond, new, inflow, outflow, storage, classes)
 }
 
 // The same, with the list for the new inflow rows: no lent row is written before 14 is known.
 fn work(
-    step: u64,
+    setup: Setup,
     rain: &[u64],
     subareas: &[u64],
     pond: &[u64],
@@ -170,16 +163,14 @@ fn work(
     place: u64,
     fresh: &[u64],
 ) -> EditAnswer
-    requires { ⌜ EditOk step (now rain) (now subareas) (now pond) (length (now inflow)) (length (now outflow)) (length (now storage)) place (now fresh) ⌝ }
-    ensures { λ r. ⌜ r ≡ worked step (now (rain .entry)) (now (subareas .entry)) (now (pond .entry)) (now (inflow .entry)) (now (outflow .entry)) (now (storage .entry)) place (now (fresh .entry)) ⌝ }
-    ensures { λ _. ⌜ now (inflow .exit) ≡ after (rowsRefusal step (now (rain .entry)) (now (subareas .entry)) (now (pond .entry)) (now (inflow .entry)) (now (outflow .entry)) (now (storage .entry)) place (now (fresh .entry))) (newInflow step (now (rain .entry)) (now (subareas .entry)) place (now (fresh .entry)) (now (inflow .entry))) (now (inflow .entry)) ⌝ }
-    ensures { λ _. ⌜ now (outflow .exit) ≡ after (rowsRefusal step (now (rain .entry)) (now (subareas .entry)) (now (pond .entry)) (now (inflow .entry)) (now (outflow .entry)) (now (storage .entry)) place (now (fresh .entry))) (outflowsFrom (step / 2) (now (pond .entry)) (now (outflow .entry)) (now (storage .entry)) (newInflow step (now (rain .entry)) (now (subareas .entry)) place (now (fresh .entry)) (now (inflow .entry))) (firstChanged (now (inflow .entry)) (newInflow step (now (rain .entry)) (now (subareas .entry)) place (now (fresh .entry)) (now (inflow .entry))))) (now (outflow .entry)) ⌝ }
-    ensures { λ _. ⌜ now (storage .exit) ≡ after (rowsRefusal step (now (rain .entry)) (now (subareas .entry)) (now (pond .entry)) (now (inflow .entry)) (now (outflow .entry)) (now (storage .entry)) place (now (fresh .entry))) (storagesFrom (step / 2) (now (pond .entry)) (now (outflow .entry)) (now (storage .entry)) (newInflow step (now (rain .entry)) (now (subareas .entry)) place (now (fresh .entry)) (now (inflow .entry))) (firstChanged (now (inflow .entry)) (newInflow step (now (rain .entry)) (now (subareas .entry)) place (now (fresh .entry)) (now (inflow .entry))))) (now (storage .entry)) ⌝ }
+    requires { ⌜ EditOk (siteNow setup rain subareas pond) (rowsNow inflow outflow storage) place (now fresh) ⌝ }
+    ensures { λ r. ⌜ r ≡ refitted (site setup rain subareas pond) (found inflow outflow storage) place (now (fresh .entry)) ⌝ }
+    ensures { λ _. ⌜ left inflow outflow storage ≡ refittedRows (site setup rain subareas pond) (found inflow outflow storage) place (now (fresh .entry)) ⌝ }
 {
     let m = inflow.len();
-    let mut new = [0u64; 2000];
+    let mut new = [0u64; limits::MOST_ROWS];
     refit(
-        step,
+        setup,
         rain,
         subareas,
         pond,
@@ -205,20 +196,19 @@ pub fn run(
     place: u64,
     fresh: &[u64; subarea::WIDTH],
 ) -> EditAnswer
-    ensures { λ r. ⌜ r ≡ editAnswer setup (now (rain .entry)) (now (subareas .entry)) (now (pond .entry)) (now (inflow .entry)) (now (outflow .entry)) (now (storage .entry)) place (now (fresh .entry)) ⌝ }
-    ensures { λ _. ⌜ now (inflow .exit) ≡ inflowAfter setup (now (rain .entry)) (now (subareas .entry)) (now (pond .entry)) (now (inflow .entry)) (now (outflow .entry)) (now (storage .entry)) place (now (fresh .entry)) ⌝ }
-    ensures { λ _. ⌜ now (outflow .exit) ≡ outflowAfter setup (now (rain .entry)) (now (subareas .entry)) (now (pond .entry)) (now (inflow .entry)) (now (outflow .entry)) (now (storage .entry)) place (now (fresh .entry)) ⌝ }
-    ensures { λ _. ⌜ now (storage .exit) ≡ storageAfter setup (now (rain .entry)) (now (subareas .entry)) (now (pond .entry)) (now (inflow .entry)) (now (outflow .entry)) (now (storage .entry)) place (now (fresh .entry)) ⌝ }
-    ensures { λ r. ⌜ (editRefusalIn r ≡ editRefusal setup (now (rain .entry)) (now (subareas .entry)) (now (pond .entry)) (now (inflow .entry)) (now (outflow .entry)) (now (storage .entry)) place (now (fresh .entry))) × (editValuesIn r ≡ editValues setup (now (rain .entry)) (now (subareas .entry)) (now (pond .entry)) (now (inflow .entry)) (now (outflow .entry)) (now (storage .entry)) place (now (fresh .entry))) ⌝ }
+    ensures { λ r. ⌜ r ≡ editAnswer (site setup rain subareas pond) (found inflow outflow storage) place (now (fresh .entry)) ⌝ }
+    ensures { λ _. ⌜ left inflow outflow storage ≡ editRows (site setup rain subareas pond) (found inflow outflow storage) place (now (fresh .entry)) ⌝ }
+    ensures { λ r. ⌜ editRefusalIn r ≡ editRefusal (site setup rain subareas pond) (found inflow outflow storage) place (now (fresh .entry)) ⌝ }
+    ensures { λ r. ⌜ editValuesIn r ≡ editValues (site setup rain subareas pond) (found inflow outflow storage) place (now (fresh .entry)) ⌝ }
 {
-    let v = checks::lists_checks(
+    let v = alter::order::edit_checks(
         setup,
         rain,
         subareas,
         pond,
-        inflow.len(),
-        outflow.len(),
-        storage.len(),
+        inflow,
+        outflow,
+        storage,
         place,
         fresh,
     );
@@ -226,7 +216,7 @@ pub fn run(
         return EditAnswer::Refused(v);
     }
     work(
-        setup.step,
+        setup,
         rain,
         subareas,
         pond,

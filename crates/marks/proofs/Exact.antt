@@ -9,45 +9,40 @@ use lib.ListN.{length}
 use Rattle.laws.specs.Pick.{pick}
 use Rattle.laws.proofs.Tests.{by-test}
 use Rattle.pond.proofs.Sums.{stage-most}
-use Rattle.rows.specs.Standing.{at, peakRow, rowStage}
-use Rattle.study.specs.declared.Setup.{Setup}
+use Rattle.rows.specs.Figures.{at, peakRow, rowStage}
+use Rattle.subarea.specs.declared.Setup.{Setup}
+use Rattle.subarea.specs.Records.{halfOf}
+use Rattle.checks.specs.Site.{Rows}
 use Rattle.marks.specs.declared.Mark.{Mark}
 use Rattle.marks.specs.declared.Mark.the-variants.{Nothing, Outflow, Peak}
-use Rattle.marks.specs.declared.Marked.{Marked}
-use Rattle.marks.specs.ChartMarks.{doubleOf, markAt, pointAt, markedOf, refusalOf, MarkOk}
-use Rattle.marks.proofs.Doubles.{IsWhole, double-whole}
+use Rattle.marks.specs.ChartMarks.{doubleOf, markAt, pointAt, markedOf, markRefusal, IsWhole, WholeMark, AllWhole}
+use Rattle.marks.specs.Needs.{MarkOk}
+use Rattle.marks.proofs.Doubles.{double-whole}
 use Rattle.marks.proofs.Ready.{mark-ok, flow-exact, asked-ok, point-ok}
 
--- a mark whose doubles are the whole outflow o and the whole stage s
-abbrev pub WholeMark : Mark → ℕ → ℕ → Type 0
-WholeMark Nothing o s = o ≡ 0
-WholeMark (Outflow x) o s = IsWhole x o
-WholeMark (Peak x y) o s = IsWhole x o × IsWhole y s
+module _ (g : Setup) (p : List ℕ) (l : Rows) (k : ℕ) (done : markRefusal g p l k .number ≡ 0) where
+  abbrev os : List ℕ
+  os = l .outflow
 
--- a mark and its point, all whole
-pub record AllWhole (w : Marked) (n t o s : ℕ) : Type 0 where
-  pub number : IsWhole (w .point .row) n
-  pub time : IsWhole (w .point .seconds) t
-  pub flow : IsWhole (w .point .outflow) o
-  pub mark : WholeMark (w .mark) o s
+  abbrev ss : List ℕ
+  ss = l .storage
 
-module _ (g : Setup) (p : List ℕ) (m : ℕ) (os ss : List ℕ) (k : ℕ) (done : refusalOf g p m os ss k .number ≡ 0) where
   ready : MarkOk g p os ss k
-  ready = mark-ok g p m os ss k done
+  ready = mark-ok g p l k done
 
   abbrev flow : ℕ
   flow = at os (k - 1)
 
   abbrev stage : ℕ
-  stage = rowStage (g .step / 2) p os ss (k - 1)
+  stage = rowStage (halfOf g) p os ss (k - 1)
 
   whole-flow : IsWhole (doubleOf flow) flow
   whole-flow = double-whole flow (flow-exact (ready .pond) (asked-ok ready))
 
   whole-stage : IsWhole (doubleOf stage) stage
-  whole-stage = double-whole stage (omega (arith, stage-most (ready .pond) (at ss (k - 1) + g .step / 2 * flow) (asked-ok ready .within-last)))
+  whole-stage = double-whole stage (omega (arith, stage-most (ready .pond) (at ss (k - 1) + halfOf g * flow) (asked-ok ready .within-last)))
 
-  whole-mark : WholeMark (markAt (g .step / 2) p (peakRow os (length os)) k flow (at ss (k - 1))) flow stage
+  whole-mark : WholeMark (markAt (halfOf g) p (peakRow os (length os)) k flow (at ss (k - 1))) flow stage
   unfolding markAt
   whole-mark =
       by-test (λ (z : Mark). WholeMark z flow stage) (eqb flow 0) Nothing (pick (eqb k (peakRow os (length os))) (Peak (doubleOf flow) (doubleOf stage)) (Outflow (doubleOf flow)))
@@ -67,5 +62,5 @@ module _ (g : Setup) (p : List ℕ) (m : ℕ) (os ss : List ℕ) (k : ℕ) (done
       }
 
   -- accepted: every row's number is below 9007199254740992
-  pub row-numbers : (j : ℕ) → j < length os → g .first + j < 9007199254740992
-  row-numbers j l = omega (arith, ready .last)
+  pub row-numbers : (j : ℕ) → j < length (l .outflow) → g .first + j < 9007199254740992
+  row-numbers j less = omega (arith, ready .last)

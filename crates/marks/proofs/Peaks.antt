@@ -8,7 +8,7 @@ use borrow.Author.Tests.{lt-ltb, le-ltb}
 use lib.ListN.{length}
 use Rattle.laws.specs.Pick.{pick}
 use Rattle.laws.specs.Scan.{scan}
-use Rattle.rows.specs.Standing.{maxTo, at, peakRow}
+use Rattle.rows.specs.Figures.{maxTo, at, peakRow}
 use Rattle.rows.proofs.Keeping.{max-more, peak-more}
 
 -- of the rows before row i (from 0)

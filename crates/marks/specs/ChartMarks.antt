@@ -1,18 +1,23 @@
 -- Document 01, 'Chart marks' and refusals 17 and 18: a row's mark and point, and what a mark answers.
-use mathlib.Core.List.{List, [], _∷_}
-use Prim.Native.Nat.{ℕ, _+_, _-_, _*_, _/_, _≤_}
+use mathlib.Core.Path.{_≡_}
+use mathlib.Core.Bool.{false}
+use mathlib.Core.List.{List, [], _∷_, _++_}
+use Prim.Native.Nat.{ℕ, _+_, _-_, _*_, _/_, _<_}
 use lib.ListN.{length}
-use lib.Dec.{eqb}
+use lib.Dec.{T, eqb}
 use lib.IntN.{pos}
-use lib.Ieee.{Float, binary64, ofInt}
+use lib.Ieee.{Float, binary64, ofInt, inUnsigned, toUnsigned}
+use lib.Ieee.Exact.{HasValue}
 use Rattle.laws.specs.Pick.{pick}
 use Rattle.laws.specs.Within.{within}
-use Rattle.pond.specs.PondRows.{stageAt, PondOk}
-use Rattle.rows.specs.Standing.{at, peakRow, firstForged, RowsOk}
-use Rattle.study.specs.declared.Setup.{Setup}
-use Rattle.study.specs.declared.Refusal.{Refusal}
-use Rattle.study.specs.Refusals.{none, orElse, unless, firstOf, markChecks, pondChecks}
-use Rattle.study.specs.Study.{passes}
+use Rattle.pond.specs.PondRows.{stageAt}
+use Rattle.rows.specs.Figures.{at, peakRow, firstForged}
+use Rattle.subarea.specs.declared.Setup.{Setup}
+use Rattle.refusals.specs.declared.Refusal.{Refusal}
+use Rattle.subarea.specs.Records.{halfOf}
+use Rattle.checks.specs.Site.{Rows, asked}
+use Rattle.refusals.specs.Refusals.{none, unless, firstOf, firstRefusal, after}
+use Rattle.checks.specs.Order.{frameLines, lastGood, pondLines, forgedLine}
 use Rattle.marks.specs.declared.Point.{Point}
 use Rattle.marks.specs.declared.Mark.{Mark}
 use Rattle.marks.specs.declared.Mark.the-variants.{Nothing, Outflow, Peak}
@@ -24,10 +29,6 @@ use Rattle.marks.specs.declared.MarkAnswer.the-variants.{Refused, Done}
 abbrev pub doubleOf : ℕ → Float
 doubleOf n = ofInt binary64 (pos n)
 
--- every whole number up to this one is a double itself
-abbrev pub mostExact : ℕ
-mostExact = 9007199254740991
-
 -- the mark of row k with outflow o and storage s, first rule that fits: none when o is 0; a peak with outflow and stage for the peak row; else an outflow
 unfoldable pub markAt : ℕ → List ℕ → ℕ → ℕ → ℕ → ℕ → Mark
 markAt h p peak k o s =
@@ -35,37 +36,40 @@ markAt h p peak k o s =
     (pick (eqb k peak) (Peak (doubleOf o) (doubleOf (stageAt h p (s + h * o))))
     (Outflow (doubleOf o)))
 
--- the point of row k with outflow o: row number first + k - 1, seconds from the start k D, and outflow
+-- the point of row k with outflow o: row number first + k - 1, seconds from the start k D, and outflow (k is 1 or above: mark-ok)
 unfoldable pub pointAt : Setup → ℕ → ℕ → Point
 pointAt g k o = record { row = doubleOf (g .first + k - 1); seconds = doubleOf (k * g .step); outflow = doubleOf o }
 
--- the mark and the point of row k, from 1; the peak row is the first with the greatest outflow of all
+-- the mark and the point of row k, from 1 (mark-ok); the peak row is the first with the greatest outflow of all
 unfoldable pub markedOf : Setup → List ℕ → List ℕ → List ℕ → ℕ → Marked
 markedOf g p os ss k =
     record {
-      mark = markAt (g .step / 2) p (peakRow os (length os)) k (at os (k - 1)) (at ss (k - 1));
+      mark = markAt (halfOf g) p (peakRow os (length os)) k (at os (k - 1)) (at ss (k - 1));
       point = pointAt g k (at os (k - 1));
     }
 
--- 18: the row asked is 1 to m; then 17: the first row of all that cannot be a pond's
-unfoldable pub rowChecks : ℕ → List ℕ → List ℕ → List ℕ → ℕ → Refusal
-rowChecks h p os ss k = orElse (unless 18 (within 1 k (length os))) (firstOf 17 (firstForged h p os ss) (length os))
+-- 1, 2 and 4
+abbrev pub markLines : Setup → Rows → List Refusal
+markLines g l = frameLines g l ++ (unless 4 (lastGood g (asked l)) ∷ [])
 
--- the first refusal of a mark, in the order 1, 2, 4, 12, 13, 18, 17; m is the length of the inflow list
-unfoldable pub refusalOf : Setup → List ℕ → ℕ → List ℕ → List ℕ → ℕ → Refusal
-refusalOf g p m os ss k =
-    orElse (markChecks (g .step) (g .first) m (length os) (length ss))
-    (orElse (pondChecks (g .step / 2) p) (rowChecks (g .step / 2) p os ss k))
+-- 18: the row asked is 1 to m; 17: all rows, whatever row is asked
+abbrev pub askedLines : Setup → List ℕ → Rows → ℕ → List Refusal
+askedLines g p l k =
+    unless 18 (within 1 k (length (l .outflow)))
+    ∷ forgedLine g p l
+    ∷ []
 
--- what a mark answers
-unfoldable pub answerOf : Setup → List ℕ → ℕ → List ℕ → List ℕ → ℕ → MarkAnswer
-answerOf g p m os ss k =
-    pick (passes (refusalOf g p m os ss k)) (Done (markedOf g p os ss k)) (Refused (refusalOf g p m os ss k))
+-- document 01's order of a mark, line by line: 1, 2, 4, 12, 13, 18, 17
+abbrev pub markOrder : Setup → List ℕ → Rows → ℕ → List Refusal
+markOrder g p l k = markLines g l ++ pondLines g p ++ askedLines g p l k
 
--- the number and the place that an answer has in document 01: 0 and 0 when done
-abbrev pub refusalIn : MarkAnswer → Refusal
-refusalIn (Refused v) = v
-refusalIn (Done w) = none
+-- the first refusal of a mark
+unfoldable pub markRefusal : Setup → List ℕ → Rows → ℕ → Refusal
+markRefusal g p l k = firstRefusal (markOrder g p l k)
+
+-- what a mark answers; of the inflow list only the length is read
+unfoldable pub markAnswer : Setup → List ℕ → Rows → ℕ → MarkAnswer
+markAnswer g p l k = after (markRefusal g p l k) (Done (markedOf g p (l .outflow) (l .storage) k)) (Refused (markRefusal g p l k))
 
 -- the kind of a mark: 0 none, 1 an outflow, 2 a peak
 abbrev pub kindOf : Mark → ℕ
@@ -84,27 +88,49 @@ stageOf Nothing = doubleOf 0
 stageOf (Outflow o) = doubleOf 0
 stageOf (Peak o s) = s
 
--- the kind and the values that an answer has: the mark's outflow and stage, then the point's row number, seconds and outflow; every one 0 when refused
-abbrev pub kindIn : MarkAnswer → ℕ
-kindIn (Refused v) = 0
-kindIn (Done w) = kindOf (w .mark)
+-- the five values: the mark's outflow and stage, then the point's row number, seconds and outflow; and those of a refused mark
+abbrev pub doublesOf : Marked → List Float
+doublesOf w = flowOf (w .mark) ∷ stageOf (w .mark) ∷ w .point .row ∷ w .point .seconds ∷ w .point .outflow ∷ []
 
-abbrev pub valuesIn : MarkAnswer → List Float
-valuesIn (Refused v) = doubleOf 0 ∷ doubleOf 0 ∷ doubleOf 0 ∷ doubleOf 0 ∷ doubleOf 0 ∷ []
-valuesIn (Done w) = flowOf (w .mark) ∷ stageOf (w .mark) ∷ w .point .row ∷ w .point .seconds ∷ w .point .outflow ∷ []
+abbrev pub noDoubles : List Float
+noDoubles = doubleOf 0 ∷ doubleOf 0 ∷ doubleOf 0 ∷ doubleOf 0 ∷ doubleOf 0 ∷ []
 
--- a point whose three numbers are doubles themselves
-pub record PointOk (g : Setup) (k o : ℕ) : Type 0 where
-  pub least : 1 ≤ k
-  pub number : g .first + k - 1 ≤ mostExact
-  pub time : k * g .step ≤ mostExact
-  pub flow : o ≤ mostExact
+-- the kind and the values of a mark: every one 0 when something is refused
+unfoldable pub markKind : Setup → List ℕ → Rows → ℕ → ℕ
+markKind g p l k = after (markRefusal g p l k) (kindOf (markedOf g p (l .outflow) (l .storage) k .mark)) 0
 
--- what the refusals of a mark leave
-pub record MarkOk (g : Setup) (p os ss : List ℕ) (k : ℕ) : Type 0 where
-  pub pond : PondOk (g .step / 2) p
-  pub rows : RowsOk (g .step / 2) p os ss
-  pub least : 1 ≤ k
-  pub most : k ≤ length os
-  pub step-most : g .step ≤ 3600
-  pub last : g .first + length os - 1 ≤ mostExact
+unfoldable pub markValues : Setup → List ℕ → Rows → ℕ → List Float
+markValues g p l k = after (markRefusal g p l k) (doublesOf (markedOf g p (l .outflow) (l .storage) k)) noDoubles
+
+-- the number and the place, the kind and the values that an answer has: 0 and 0 when done, kind and values 0 when refused
+abbrev pub markRefusalIn : MarkAnswer → Refusal
+markRefusalIn (Refused v) = v
+markRefusalIn (Done w) = none
+
+abbrev pub markKindIn : MarkAnswer → ℕ
+markKindIn (Refused v) = 0
+markKindIn (Done w) = kindOf (w .mark)
+
+abbrev pub markValuesIn : MarkAnswer → List Float
+markValuesIn (Refused v) = noDoubles
+markValuesIn (Done w) = doublesOf w
+
+-- a double that is the whole number n itself: n is below 2^53, the double's value is n over 1 with no sign, it passes the test of a cast to 64 bits, and the cast gives n again
+pub record IsWhole (x : Float) (n : ℕ) : Type 0 where
+  pub small : n < 9007199254740992
+  pub value : HasValue x false n 1
+  pub fits : T (inUnsigned binary64 64 x)
+  pub back : toUnsigned 64 x ≡ n
+
+-- a mark whose doubles are the whole outflow o and the whole stage s
+abbrev pub WholeMark : Mark → ℕ → ℕ → Type 0
+WholeMark Nothing o s = o ≡ 0
+WholeMark (Outflow x) o s = IsWhole x o
+WholeMark (Peak x y) o s = IsWhole x o × IsWhole y s
+
+-- a mark and its point, all whole: row number n, seconds t, outflow o and stage s
+pub record AllWhole (w : Marked) (n t o s : ℕ) : Type 0 where
+  pub number : IsWhole (w .point .row) n
+  pub time : IsWhole (w .point .seconds) t
+  pub flow : IsWhole (w .point .outflow) o
+  pub mark : WholeMark (w .mark) o s

@@ -1,1 +1,2 @@
 pub mod ChartMarks
+pub mod Needs

@@ -1,14 +1,19 @@
 // A row's mark and point for a chart, as doubles. Each is a whole number below 2^53, so nothing is rounded.
 // Units: outflow in thousandths of a cfs, storage in thousandths of a cubic foot, stage in thousandths of a ft; half is half
 // the step, in seconds; rows count from 1.
-use study::Refusal;
-use study::Setup;
+use refusals::Refusal;
+use subarea::Setup;
 ghost use mathlib.Core.Path.{_≡_};
 ghost use Prim.Native.Nat.{_≤_};
 ghost use lib.ListN.{length};
-ghost use Rattle.pond.specs.PondRows.{PondOk};
-ghost use Rattle.rows.specs.Standing.{peakRow, RowOk};
-ghost use Rattle.marks.specs.ChartMarks.{doubleOf, mostExact, markAt, pointAt, markedOf, rowChecks, refusalOf, answerOf, refusalIn, PointOk, MarkOk};
+ghost use Rattle.laws.specs.Within.{within};
+ghost use Rattle.pond.specs.Needs.{PondOk};
+ghost use Rattle.rows.specs.Figures.{peakRow};
+ghost use Rattle.rows.specs.Needs.{RowOk};
+ghost use Rattle.checks.specs.Site.{found};
+ghost use Rattle.refusals.specs.Refusals.{unless, firstRefusal};
+ghost use Rattle.marks.specs.ChartMarks.{doubleOf, markAt, pointAt, markedOf, markLines, markRefusal, markAnswer, markKind, markValues, markRefusalIn, markKindIn, markValuesIn};
+ghost use Rattle.marks.specs.Needs.{mostExact, PointOk, MarkOk};
 
 // Where a row stands on a chart: its number, the seconds from the start, its outflow.
 pub struct Point {
@@ -106,49 +111,44 @@ fn mark_and_point(setup: Setup, pond: &[u64], outflow: &[u64], storage: &[u64], 
     Marked { mark, point }
 }
 
-// Refusals 18 and 17. All rows are tested, whatever row is asked: the peak is chosen among all.
-fn row_checks(half: u64, pond: &[u64], outflow: &[u64], storage: &[u64], row: u64) -> Refusal
-    requires { ⌜ PondOk half (now pond) × ((length (now storage) ≡ length (now outflow)) × (length (now outflow) ≤ 2000)) ⌝ }
-    ensures { λ r. ⌜ r ≡ rowChecks half (now (pond .entry)) (now (outflow .entry)) (now (storage .entry)) row ⌝ }
+// Refusal 18. m is the number of rows.
+fn row_check(row: u64, m: usize) -> Refusal
+    ensures { λ r. ⌜ r ≡ unless 18 (within 1 row m) ⌝ }
 {
-    let m = outflow.len() as u64;
-    if !laws::within(1, row, m) {
-        return Refusal {
-            number: 18,
-            place: 0,
-        };
-    }
-    let place = rows::first_forged(pond, half, outflow, storage) as u64 + 1;
-    if place <= m {
-        return Refusal { number: 17, place };
-    }
-    Refusal {
-        number: 0,
-        place: 0,
-    }
+    Refusal::charge(18, laws::within(1, row, m as u64), 0)
 }
 
-// The first refusal, in the order 1, 2, 4, 12, 13, 18, 17. m is the length of the inflow list.
-fn refusal_of(
+// Refusals 1, 2 and 4.
+fn mark_checks(setup: Setup, inflow: &[u64], outflow: &[u64], storage: &[u64]) -> Refusal
+    ensures { λ r. ⌜ r ≡ firstRefusal (markLines setup (found inflow outflow storage)) ⌝ }
+{
+    checks::frame_checks(setup, inflow, outflow, storage)
+        .or(checks::last_check(setup, inflow.len()))
+}
+
+// The first refusal, in the order 1, 2, 4, 12, 13, 18, 17.
+fn mark_refusal(
     setup: Setup,
     pond: &[u64],
-    m: usize,
+    inflow: &[u64],
     outflow: &[u64],
     storage: &[u64],
     row: u64,
 ) -> Refusal
-    ensures { λ r. ⌜ r ≡ refusalOf setup (now (pond .entry)) m (now (outflow .entry)) (now (storage .entry)) row ⌝ }
+    ensures { λ r. ⌜ r ≡ markRefusal setup (now (pond .entry)) (found inflow outflow storage) row ⌝ }
 {
-    let lists = study::checks::mark_checks(setup, m, outflow.len(), storage.len());
+    // All rows are held against the pond, whatever row is asked: the peak is chosen among all.
+    let lists = mark_checks(setup, inflow, outflow, storage);
     if lists.number != 0 {
         return lists;
     }
-    let half = setup.step / 2;
-    let table = study::checks::pond_checks(half, pond);
+    let table = checks::pond_checks(setup, pond);
     if table.number != 0 {
         return table;
     }
-    row_checks(half, pond, outflow, storage, row)
+    table
+        .or(row_check(row, outflow.len()))
+        .or(checks::forged_check(setup, pond, outflow, storage))
 }
 
 // The mark of a row: refused by number and place, or done with its mark and its point. Of the inflow list only the length is
@@ -161,10 +161,12 @@ pub fn mark_row(
     storage: &[u64],
     row: u64,
 ) -> MarkAnswer
-    ensures { λ r. ⌜ r ≡ answerOf setup (now (pond .entry)) (length (now (inflow .entry))) (now (outflow .entry)) (now (storage .entry)) row ⌝ }
-    ensures { λ r. ⌜ refusalIn r ≡ refusalOf setup (now (pond .entry)) (length (now (inflow .entry))) (now (outflow .entry)) (now (storage .entry)) row ⌝ }
+    ensures { λ r. ⌜ r ≡ markAnswer setup (now (pond .entry)) (found inflow outflow storage) row ⌝ }
+    ensures { λ r. ⌜ markRefusalIn r ≡ markRefusal setup (now (pond .entry)) (found inflow outflow storage) row ⌝ }
+    ensures { λ r. ⌜ markKindIn r ≡ markKind setup (now (pond .entry)) (found inflow outflow storage) row ⌝ }
+    ensures { λ r. ⌜ markValuesIn r ≡ markValues setup (now (pond .entry)) (found inflow outflow storage) row ⌝ }
 {
-    let v = refusal_of(setup, pond, inflow.len(), outflow, storage, row);
+    let v = mark_refusal(setup, pond, inflow, outflow, storage, row);
     if v.number != 0 {
         return MarkAnswer::Refused(v);
     }

@@ -6,8 +6,8 @@ use Rattle.answers.proofs.Doubles.{zero-double}
 use Rattle.answers.proofs.flow_of.Statement.{statement}
 use Rattle.answers.proofs.flow_of.Tie as tie
 
-nothing : tie.Need-returns
-nothing c = zero-double ∙ sym (ap flowOf (c .enum-told .given .1))
+none : tie.Need-returns
+none c = zero-double ∙ sym (ap flowOf (c .enum-told .given .1))
 
 pub flow-of-spec : {M : Type 1} → statement M
-flow-of-spec = tie.close (tie.spec (λ c. search needs) (λ c. search needs) (λ c. search needs) nothing (λ c. search needs) (λ c. search needs))
+flow-of-spec = tie.close (tie.spec (λ c. search needs) (λ c. search needs) (λ c. search needs) none (λ c. search needs) (λ c. search needs))

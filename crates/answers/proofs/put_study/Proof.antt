@@ -2,8 +2,8 @@
 use mathlib.Core.Path.{sym, ap, _∙_}
 use borrow.Author.Needs.{needs}
 use Rattle.study.specs.declared.StudyAnswer.{StudyAnswer}
-use Rattle.study.specs.Study.{refusalIn}
-use Rattle.answers.specs.StudyNumbers.{numbers, numbersOf}
+use Rattle.study.specs.Study.{studyRefusalIn}
+use Rattle.answers.specs.StudyNumbers.{studyNumbers, studyNumbersOf}
 use Rattle.answers.proofs.put_study.Statement.{statement}
 use Rattle.answers.proofs.put_study.Tie as tie
 
@@ -11,12 +11,12 @@ refused : tie.Need-returns
 refused c =
     let e = c .before .before .before .before .own .given .1 in
     let v = c .before .before .before .before .own .given .0 .0 in
-    (c .write-study .ensures .0 ∙ sym (ap (λ (a : StudyAnswer). refusalIn a .number) e), c .write-study .ensures .1 ∙ ap (numbers (v .number) (v .place)) (c .before .before .no-figures .ensures) ∙ sym (ap numbersOf e))
+    (c .write-study .ensures .0 ∙ sym (ap (λ (a : StudyAnswer). studyRefusalIn a .number) e), c .write-study .ensures .1 ∙ ap (studyNumbers (v .number) (v .place)) (c .before .before .no-figures .ensures) ∙ sym (ap studyNumbersOf e))
 
 done : tie.Need-returns-2
 done c =
     let e = c .before .before .before .own2 .given .1 in
-    (c .write-study2 .ensures .0 ∙ sym (ap (λ (a : StudyAnswer). refusalIn a .number) e), c .write-study2 .ensures .1 ∙ sym (ap numbersOf e))
+    (c .write-study2 .ensures .0 ∙ sym (ap (λ (a : StudyAnswer). studyRefusalIn a .number) e), c .write-study2 .ensures .1 ∙ sym (ap studyNumbersOf e))
 
 pub put-study-spec : {M : Type 1} → statement M
 put-study-spec =

@@ -6,7 +6,8 @@ use borrow.Author.Needs.{needs}
 use lib.ListN.{length, take, drop, length-drop}
 use Rattle.laws.proofs.Fill.{tail-part}
 use Rattle.pond.specs.declared.State.{State}
-use Rattle.rows.specs.Routing.{dryOf, stateBefore}
+use Rattle.rows.specs.Needs.{dryOf}
+use Rattle.rows.specs.Routing.{stateBefore}
 use Rattle.rows.proofs.Columns.{inflow-tail}
 use Rattle.edit.proofs.Changed.{before-ok}
 use Rattle.edit.proofs.dry_tail.Statement.{statement}

@@ -1,15 +1,18 @@
 -- `edit::finish` meets its contract: only the tails are lent onward. Assumes nothing.
 use mathlib.Core.Path.{_≡_, sym, ap, _∙_}
 use mathlib.Core.List.{List}
-use Prim.Native.Nat.{ℕ}
+use Prim.Native.Nat.{ℕ, _-_}
 use native.Mathlib.Omega.{arith}
 use borrow.Author.Needs.{needs}
+use borrow.Rule.Slice.PartMut.{putMid}
 use lib.ListN.{length, length-take, length-drop}
-use Rattle.rows.specs.Standing.{figuresOf, RowsOk}
+use Rattle.rows.specs.Figures.{figuresOf}
+use Rattle.rows.specs.Needs.{RowsOk}
 use Rattle.rows.specs.declared.RowFigures.{RowFigures}
-use Rattle.edit.specs.Altering.{changedAt, outflowsFrom}
-use Rattle.edit.specs.Edit.{told, figuresFrom, editedOf}
-use Rattle.edit.proofs.Changed.{before-ok, rows-left, out-length, figures-small, tail-written}
+use Rattle.alter.specs.Altering.{changedAt, outflowsFrom, storagesFrom}
+use Rattle.checks.specs.Site.{Rows, rowsNow}
+use Rattle.edit.specs.Edit.{rerouted, figuresIn, told, editedOf}
+use Rattle.edit.proofs.Changed.{rows-equal, before-ok, rows-left, out-length, figures-small, tail-written}
 use Rattle.edit.proofs.finish.Statement.{statement}
 use Rattle.edit.proofs.finish.Tie as tie
 
@@ -67,17 +70,20 @@ tell-requires c κs =
       rw (r .before .before .before .before .before .before .before .before .figures-of .ensures) (figures-small (fit .pond) (s .args .outflow .now) (s .args .storage .now) (fit .rows) (s .args .inflow .now)),
     )
 
--- the figures of the new rows, and of the rows as found
-own : (c : tie.After-figures-of2) → c .figures-of2 .result ≡ figuresFrom (S (c .before .before .before .before .before .before .before) .args .half) (S (c .before .before .before .before .before .before .before) .args .pond .now) (S (c .before .before .before .before .before .before .before) .args .outflow .now) (S (c .before .before .before .before .before .before .before) .args .storage .now) (S (c .before .before .before .before .before .before .before) .args .new .now) (S (c .before .before .before .before .before .before .before) .args .a)
-own c =
-    let r = c .before .before .before .before .before .before .before in
-    let s = S r in
-    let h = s .args .half in
-    let p = s .args .pond .now in
-    let ws = s .args .new .now in
-    c .figures-of2 .ensures
-    ∙ ap (λ (z : List ℕ). figuresOf h p ws z (r .route-from .last .1 .1 .1 .1 .0)) (r .route-from .ensures .0)
-    ∙ ap (λ (z : List ℕ). figuresOf h p ws (outflowsFrom h p (s .args .outflow .now) (s .args .storage .now) ws (s .args .a)) z) (r .route-from .ensures .1)
+-- the three lists as left
+inflow-left : (c : tie.After-route-from) → putMid (S c .args .a) (length (S c .args .inflow .now) - S c .args .a) (S c .args .inflow .now) (c .before .before .before .before .before .copy .last .1 .0) ≡ S c .args .new .now
+inflow-left c =
+    let s = S c in
+    tail-written (s .args .inflow .now) (s .args .new .now) (s .pre .0 .0 .new-long) (s .args .a) _ (s .pre .0 .1 .0) (c .before .before .before .before .before .copy .ensures)
+
+abbrev Left : tie.After-route-from → Rows
+Left c = rerouted (S c .args .half) (S c .args .pond .now) (rowsNow (S c .args .inflow) (S c .args .outflow) (S c .args .storage)) (S c .args .new .now)
+
+outflow-left : (c : tie.After-route-from) → c .route-from .last .1 .1 .1 .0 ≡ Left c .outflow
+outflow-left c = let s = S c in c .route-from .ensures .0 ∙ ap (outflowsFrom (s .args .half) (s .args .pond .now) (s .args .outflow .now) (s .args .storage .now) (s .args .new .now)) (s .pre .0 .1 .0)
+
+storage-left : (c : tie.After-route-from) → c .route-from .last .1 .1 .1 .1 .0 ≡ Left c .storage
+storage-left c = let s = S c in c .route-from .ensures .1 ∙ ap (storagesFrom (s .args .half) (s .args .pond .now) (s .args .outflow .now) (s .args .storage .now) (s .args .new .now)) (s .pre .0 .1 .0)
 
 returns : tie.Need-returns
 unfolding editedOf
@@ -88,28 +94,20 @@ returns c =
     let s = S r in
     let h = s .args .half in
     let p = s .args .pond .now in
-    let vs = s .args .inflow .now in
-    let os = s .args .outflow .now in
-    let ss = s .args .storage .now in
     let ws = s .args .new .now in
-    let fit = s .pre .0 .0 in
-    let row = c .before .changed-row .result in
-    let old = o .figures-of .result in
-    let here = s .pre .0 .1 .0 in (
+    let own = figuresIn h p (Left r) in
+    let row = c .before .changed-row .result in (
       c .tell .ensures
-          ∙ ap (λ (z : RowFigures). told (s .args .classes) z old row) (own f)
-          ∙ ap (λ (z : RowFigures). told (s .args .classes) (figuresFrom h p os ss ws (s .args .a)) z row) (o .figures-of .ensures)
-          ∙ ap (told (s .args .classes) (figuresFrom h p os ss ws (s .args .a)) (figuresOf h p vs os ss)) (c .before .changed-row .ensures ∙ ap (changedAt (s .args .a)) (fit .new-long))
-          ∙ ap (λ (z : ℕ). told (s .args .classes) (figuresFrom h p os ss ws z) (figuresOf h p vs os ss) (changedAt z (length vs))) here,
-      (tail-written vs ws (fit .new-long) (s .args .a) _ here (r .before .before .before .before .before .copy .ensures), r .route-from .ensures),
+          ∙ ap (λ (z : RowFigures). told (s .args .classes) z (o .figures-of .result) row) (f .figures-of2 .ensures ∙ ap (λ (z : List ℕ). figuresOf h p ws z (r .route-from .last .1 .1 .1 .1 .0)) (outflow-left r) ∙ ap (figuresOf h p ws (Left r .outflow)) (storage-left r))
+          ∙ ap (λ (z : RowFigures). told (s .args .classes) own z row) (o .figures-of .ensures)
+          ∙ ap (told (s .args .classes) own (figuresOf h p (s .args .inflow .now) (s .args .outflow .now) (s .args .storage .now))) (c .before .changed-row .ensures ∙ ap (changedAt (s .args .a)) (s .pre .0 .0 .new-long) ∙ ap (λ (z : ℕ). changedAt z (length (s .args .inflow .now))) (s .pre .0 .1 .0)),
+      rows-equal (inflow-left r) (outflow-left r) (storage-left r),
     )
 
 long : tie.Need-same-length
 long c =
     let r = c .before .before .before .before .before .before .before .before .before in
-    let s = S r in
-    let fit = s .pre .0 .0 in
-    ap length (tail-written (s .args .inflow .now) (s .args .new .now) (fit .new-long) (s .args .a) _ (s .pre .0 .1 .0) (r .before .before .before .before .before .copy .ensures)) ∙ fit .new-long
+    ap length (inflow-left r) ∙ S r .pre .0 .0 .new-long
 
 pub finish-spec : {M : Type 1} → statement M
 finish-spec =

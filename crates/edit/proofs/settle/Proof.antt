@@ -4,14 +4,16 @@ use Prim.Native.Nat.{ℕ, _+_, _≤_}
 use native.Mathlib.Omega.{arith}
 use borrow.Author.Needs.{needs}
 use lib.ListN.{length, drop, length-drop}
-use Rattle.rows.specs.Routing.{overRow, dryOf, stateBefore}
+use Rattle.rows.specs.Routing.{overRow, stateBefore}
+use Rattle.rows.specs.Needs.{dryOf}
 use Rattle.rows.specs.declared.Dry.{Dry}
 use Rattle.rows.proofs.Told.{over-none}
-use Rattle.study.specs.Refusals.{refuse}
+use Rattle.checks.specs.Site.{Rows, rowsNow}
+use Rattle.refusals.specs.Refusals.{refuse}
 use Rattle.edit.specs.declared.EditAnswer.the-variants.{Refused, Done}
-use Rattle.edit.specs.Altering.{firstChanged, outflowsFrom, storagesFrom}
+use Rattle.alter.specs.Altering.{firstChanged}
 use Rattle.edit.proofs.Changed.{changed-most}
-use Rattle.edit.proofs.Settling.{over-most, over-old, over-answer, under-new, under-answer}
+use Rattle.edit.proofs.Settling.{over-most, over-stops, over-passes}
 use Rattle.edit.proofs.settle.Statement.{statement}
 use Rattle.edit.proofs.settle.Tie as tie
 
@@ -29,6 +31,9 @@ dry-requires c κs =
 
 abbrev S : tie.After-dry-tail → tie.Start
 S g = g .before .before .before .before .before .before .before .before .before .before
+
+abbrev l : tie.Start → Rows
+l s = rowsNow (s .args .inflow) (s .args .outflow) (s .args .storage)
 
 abbrev A : tie.After-dry-tail → ℕ
 A g = g .before .before .before .first-changed .result
@@ -59,17 +64,11 @@ over : tie.Need-returns
 over c =
     let g = c .before .before .before in
     let s = S g in
-    let h = s .args .half in
-    let p = s .args .pond .now in
-    let vs = s .args .inflow .now in
-    let os = s .args .outflow .now in
-    let ss = s .args .storage .now in
-    let ws = s .args .new .now in
-    let n : overRow h p (stateBefore os ss (firstChanged vs ws)) (drop (firstChanged vs ws) ws) ≡ 0 → ⊥ = λ q. c .before .if1 .taken (over-is g ∙ q) in (
+    let r = over-stops (s .args .half) (s .args .pond .now) (l s) (s .args .new .now) (s .args .classes) (λ q. c .before .if1 .taken (over-is g ∙ q)) in (
       ap (λ (z : ℕ). Refused (refuse 14 (z + g .dry-tail .result .over))) (g .before .before .before .first-changed .ensures)
-          ∙ ap (λ (z : ℕ). Refused (refuse 14 (firstChanged vs ws + z))) (over-is g)
-          ∙ over-answer h p vs os ss ws n (s .args .classes),
-      (over-old h p vs os ss ws n _ _, (over-old h p vs os ss ws n _ _, over-old h p vs os ss ws n _ _)),
+          ∙ ap (λ (z : ℕ). Refused (refuse 14 (Changed g + z))) (over-is g)
+          ∙ r .0,
+      r .1,
     )
 
 finish-requires : tie.Need-finish-requires
@@ -88,24 +87,8 @@ under c =
     let f = c .before .before .before .before .before .before in
     let g = f .before .before .before .before .before .before in
     let s = S g in
-    let h = s .args .half in
-    let p = s .args .pond .now in
-    let vs = s .args .inflow .now in
-    let os = s .args .outflow .now in
-    let ss = s .args .storage .now in
-    let ws = s .args .new .now in
-    let e = sym (over-is g) ∙ f .before .before .before .before .if1 .left in
-    let here = g .before .before .before .first-changed .ensures in
-    let r = f .finish .ensures in (
-      ap Done (r .0) ∙ under-answer h p vs os ss ws e (s .args .classes),
-      (
-        r .1 .0 ∙ under-new h p vs os ss ws e _ _,
-        (
-          r .1 .1 .0 ∙ ap (outflowsFrom h p os ss ws) here ∙ under-new h p vs os ss ws e _ _,
-          r .1 .1 .1 ∙ ap (storagesFrom h p os ss ws) here ∙ under-new h p vs os ss ws e _ _,
-        ),
-      ),
-    )
+    let r = over-passes (s .args .half) (s .args .pond .now) (l s) (s .args .new .now) (s .args .classes) (sym (over-is g) ∙ f .before .before .before .before .if1 .left) in
+    (ap Done (f .finish .ensures .0) ∙ r .0, f .finish .ensures .1 ∙ r .1)
 
 pub settle-spec : {M : Type 1} → statement M
 settle-spec =

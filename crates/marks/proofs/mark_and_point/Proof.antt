@@ -2,7 +2,7 @@
 use mathlib.Core.Path.{ap, _∙_}
 use Prim.Native.Nat.{ℕ, _-_, _/_}
 use borrow.Author.Needs.{needs}
-use Rattle.rows.specs.Standing.{at}
+use Rattle.rows.specs.Figures.{at}
 use Rattle.marks.specs.ChartMarks.{markAt, markedOf}
 use Rattle.marks.proofs.Ready.{asked-ok, point-ok}
 use Rattle.marks.proofs.mark_and_point.Statement.{statement}

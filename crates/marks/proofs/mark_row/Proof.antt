@@ -1,31 +1,49 @@
 -- `marks::mark_row` meets its contract. Assumes nothing.
-use mathlib.Core.Path.{sym, ap, _∙_}
+use mathlib.Core.Path.{_≡_, sym, ap, _∙_}
+use mathlib.Core.List.{List}
 use Prim.Native.Nat.{ℕ}
 use borrow.Author.Needs.{needs}
-use lib.ListN.{length}
-use Rattle.study.specs.declared.Refusal.{Refusal}
+use Rattle.subarea.specs.declared.Setup.{Setup}
+use Rattle.refusals.specs.declared.Refusal.{Refusal}
+use Rattle.checks.specs.Site.{Rows, rowsNow}
+use Rattle.refusals.proofs.Orders.{none-new, some-old}
+use Rattle.marks.specs.declared.MarkAnswer.{MarkAnswer}
 use Rattle.marks.specs.declared.MarkAnswer.the-variants.{Refused, Done}
+use Rattle.marks.specs.ChartMarks.{markRefusal, markAnswer, markKind, markValues, markRefusalIn, markKindIn, markValuesIn}
 use Rattle.marks.proofs.Ready.{mark-ok}
-use Rattle.marks.proofs.Order.{done-none, refused-answer, done-answer}
+use Rattle.marks.proofs.Order.{mark-refusal, mark-kind, mark-values}
 use Rattle.marks.proofs.mark_row.Statement.{statement}
 use Rattle.marks.proofs.mark_row.Tie as tie
+
+abbrev l : tie.Start → Rows
+l s = rowsNow (s .args .inflow) (s .args .outflow) (s .args .storage)
 
 abbrev number : Refusal → ℕ
 number v = v .number
 
-refused : tie.Need-returns
-refused c = let s = c .before .before .before .before .before .before .before .args in
-    let e = c .before .before .refusal-of .ensures in
-    (ap Refused e ∙ refused-answer (s .setup) (s .pond .now) (length (s .inflow .now)) (s .outflow .now) (s .storage .now) (s .row) (λ q. c .if1 .taken (ap number e ∙ q)), e)
+-- the answer tells its refusal, its kind and its values
+told : (g : Setup) (p : List ℕ) (m : Rows) (k : ℕ) {r : MarkAnswer} → r ≡ markAnswer g p m k
+    → (r ≡ markAnswer g p m k) × ((markRefusalIn r ≡ markRefusal g p m k) × ((markKindIn r ≡ markKind g p m k) × (markValuesIn r ≡ markValues g p m k)))
+told g p m k e = (e, (ap markRefusalIn e ∙ mark-refusal g p m k, (ap markKindIn e ∙ mark-kind g p m k, ap markValuesIn e ∙ mark-values g p m k)))
 
-ready : tie.Need-mark-and-point-requires
-ready c κs = let s = c .before .before .before .before .before .before .before .args in
-    mark-ok (s .setup) (s .pond .now) (length (s .inflow .now)) (s .outflow .now) (s .storage .now) (s .row) (sym (ap number (c .before .before .refusal-of .ensures)) ∙ c .if1 .left)
+refused : tie.Need-returns
+unfolding markAnswer
+refused c =
+    let s = c .before .before .before .before .before .before .before in
+    let e = c .before .before .mark-refusal .ensures in
+    told (s .args .setup) (s .args .pond .now) (l s) (s .args .row) (ap Refused e ∙ some-old (markRefusal (s .args .setup) (s .args .pond .now) (l s) (s .args .row)) (λ q. c .if1 .taken (ap number e ∙ q)) _ _)
+
+requires : tie.Need-mark-and-point-requires
+requires c κs =
+    let s = c .before .before .before .before .before .before .before in
+    mark-ok (s .args .setup) (s .args .pond .now) (l s) (s .args .row) (sym (ap number (c .before .before .mark-refusal .ensures)) ∙ c .if1 .left)
 
 done : tie.Need-returns-2
-done c = let s = c .before .before .before .before .before .before .before .before .args in
-    let e = sym (ap number (c .before .before .before .refusal-of .ensures)) ∙ c .before .if1 .left in
-    (ap Done (c .mark-and-point .ensures) ∙ done-answer (s .setup) (s .pond .now) (length (s .inflow .now)) (s .outflow .now) (s .storage .now) (s .row) e, done-none (s .setup) (s .pond .now) (length (s .inflow .now)) (s .outflow .now) (s .storage .now) (s .row) e)
+unfolding markAnswer
+done c =
+    let s = c .before .before .before .before .before .before .before .before in
+    let z = sym (ap number (c .before .before .before .mark-refusal .ensures)) ∙ c .before .if1 .left in
+    told (s .args .setup) (s .args .pond .now) (l s) (s .args .row) (ap Done (c .mark-and-point .ensures) ∙ none-new (markRefusal (s .args .setup) (s .args .pond .now) (l s) (s .args .row)) z _ _)
 
 pub mark-row-spec : {M : Type 1} → statement M
-mark-row-spec = tie.close (tie.spec (λ c κs. search needs) refused ready done)
+mark-row-spec = tie.close (tie.spec (λ c κs. search needs) refused requires done)

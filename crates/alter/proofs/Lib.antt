@@ -1,0 +1,6 @@
+pub mod OnlyFresh
+pub mod Places
+pub mod Swapping
+pub mod Ground
+pub mod Ready
+pub mod Answers
