@@ -16,7 +16,7 @@ use Rattle.subarea.specs.Needs.{RecordsOk, AllPatches}
 use Rattle.checks.specs.Needs.{StepOk}
 use Rattle.alter.specs.Altering.{oldRecord}
 
--- 8: all areas together
+-- 8: all areas together (exact: `old-area`)
 abbrev pub alteredArea : List ℕ → ℕ → List ℕ → ℕ
 alteredArea s k r = allArea s - areaOf (oldRecord s k) + areaOf r
 
@@ -28,7 +28,7 @@ overFresh s k r (total n good) = unless n (good (alteredArea s k r))
 abbrev pub freshLines : Setup → List ℕ → ℕ → List ℕ → List Refusal
 freshLines g s k r = map (overFresh s k r) (listTests g)
 
--- class areas, the old record's taken away and the fresh one's added
+-- class areas, the old record's taken away (exact: `swap-ok`) and the fresh one's added
 abbrev pub classesSwapped : Classes → Classes → Classes → Classes
 classesSwapped c d e =
     record {

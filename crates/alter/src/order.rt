@@ -58,8 +58,10 @@ pub fn edit_checks(
     requires { ⌜ length (now fresh) ≡ width ⌝ }
     ensures { λ r. ⌜ r ≡ firstRefusal (editCheckLines (site setup rain subareas pond) (found inflow outflow storage) place (now (fresh .entry))) ⌝ }
 {
-    let run = checks::run_checks(setup, rain, subareas, inflow, outflow, storage)
-        .or(place_check(subareas, place));
+    let run = checks::run_checks(setup, rain, subareas, inflow, outflow, storage).or(place_check(
+        subareas,
+        place,
+    ));
     if run.number != 0 {
         return run;
     }

@@ -218,6 +218,9 @@ pub fn patches_good(patches: &[u64]) -> bool
     let n = patches.len() / PATCH_WIDTH;
     laws::both(
         patches.len() % PATCH_WIDTH == 0,
-        laws::both(laws::within(1, n as u64, MOST_PATCHES as u64), first_bad(patches) == n),
+        laws::both(
+            laws::within(1, n as u64, MOST_PATCHES as u64),
+            first_bad(patches) == n,
+        ),
     )
 }

@@ -38,31 +38,11 @@ use Rattle.alter.proofs.Swapping.{new-is}
 use Rattle.edit.specs.declared.EditAnswer.the-variants.{Refused, Done}
 use Rattle.laws.specs.Limits.{mostRows}
 use Rattle.checks.specs.Order.{forgedLine}
+use Rattle.refusals.proofs.Orders.{past, skipped}
 use Rattle.edit.specs.Edit.{unfitOf, overFrom, editRefusal, rerouted, newRows, figuresIn, editedOf, editDone, editAnswer, editRows}
 use Rattle.edit.specs.Standing.{studyIn, Studied, EditIsStudy}
 use Rattle.edit.proofs.Changed.{rows-equal, changed-most, changed-front}
 use Rattle.edit.proofs.Fitting.{fit-all}
-
--- lines that all pass leave it to what comes after
-none-first : (l : List Refusal) (v : Refusal) → v .number ≡ 0 → AllPass l → firstAfter v l .number ≡ 0
-unfolding firstAfter
-none-first [] v z p = z
-none-first (w ∷ ws) v z p = none-first ws (orElse v w) (rw (eq-eqb (v .number) 0 z) (p .0)) (p .1)
-
-past : (l : List Refusal) (w : Refusal) (k : List Refusal) → AllPass l → firstRefusal (w ∷ k) ≡ firstRefusal (l ++ (w ∷ k))
-past l w k p = goes-on l w k refl (none-first l none refl p)
-
--- a line that is none may go
-skipped : (l : List Refusal) (w : Refusal) → firstRefusal (l ++ (none ∷ none ∷ w ∷ [])) ≡ firstRefusal (l ++ (w ∷ []))
-unfolding firstAfter
-skipped l w = first-append none l (none ∷ none ∷ w ∷ []) ∙ go (firstRefusal l) ∙ sym (first-append none l (w ∷ []))
-  where
-    go : (v : Refusal) → firstAfter v (none ∷ none ∷ w ∷ []) ≡ firstAfter v (w ∷ [])
-    go v = step (eqb (v .number) 0) refl
-      where
-        step : (b : Bool) → eqb (v .number) 0 ≡ b → firstAfter v (none ∷ none ∷ w ∷ []) ≡ firstAfter v (w ∷ [])
-        step true t = rw t
-        step false t = rw (t, t, t)
 
 -- 14 of rows that begin as rows that all pass: from the first changed row on it is what it is from the start
 module _ (h : ℕ) (p vs ws : List ℕ) (all : passed h p empty vs ≡ length vs) (long : length ws ≡ length vs) where

@@ -122,8 +122,10 @@ fn row_check(row: u64, m: usize) -> Refusal
 fn mark_checks(setup: Setup, inflow: &[u64], outflow: &[u64], storage: &[u64]) -> Refusal
     ensures { λ r. ⌜ r ≡ firstRefusal (markLines setup (found inflow outflow storage)) ⌝ }
 {
-    checks::frame_checks(setup, inflow, outflow, storage)
-        .or(checks::last_check(setup, inflow.len()))
+    checks::frame_checks(setup, inflow, outflow, storage).or(checks::last_check(
+        setup,
+        inflow.len(),
+    ))
 }
 
 // The first refusal, in the order 1, 2, 4, 12, 13, 18, 17.

@@ -141,7 +141,10 @@ pub fn count_good(pond: &[u64]) -> bool
     ensures { λ r. ⌜ r ≡ countGood (now (pond .entry)) ⌝ }
 {
     let n = pond.len() / ROW_WIDTH;
-    laws::both(pond.len() % ROW_WIDTH == 0, laws::within(2, n as u64, MOST_POND_ROWS as u64))
+    laws::both(
+        pond.len() % ROW_WIDTH == 0,
+        laws::within(2, n as u64, MOST_POND_ROWS as u64),
+    )
 }
 
 fn limits_good(pond: &[u64], i: usize) -> bool

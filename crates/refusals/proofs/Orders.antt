@@ -140,3 +140,24 @@ none-new v e new old = rw (eq-eqb (v .number) 0 e)
 -- something is: it is as it was
 pub some-old : {A : Type 0} (v : Refusal) → (v .number ≡ 0 → ⊥) → (new old : A) → old ≡ after v new old
 some-old v n new old = rw (ne-eqb (v .number) 0 n)
+
+-- lines that all pass leave it to what comes after
+none-first : (l : List Refusal) (v : Refusal) → v .number ≡ 0 → AllPass l → firstAfter v l .number ≡ 0
+unfolding firstAfter
+none-first [] v z p = z
+none-first (w ∷ ws) v z p = none-first ws (orElse v w) (rw (eq-eqb (v .number) 0 z) (p .0)) (p .1)
+
+pub past : (l : List Refusal) (w : Refusal) (k : List Refusal) → AllPass l → firstRefusal (w ∷ k) ≡ firstRefusal (l ++ (w ∷ k))
+past l w k p = goes-on l w k refl (none-first l none refl p)
+
+-- a line that is none may go
+pub skipped : (l : List Refusal) (w : Refusal) → firstRefusal (l ++ (none ∷ none ∷ w ∷ [])) ≡ firstRefusal (l ++ (w ∷ []))
+unfolding firstAfter
+skipped l w = first-append none l (none ∷ none ∷ w ∷ []) ∙ go (firstRefusal l) ∙ sym (first-append none l (w ∷ []))
+  where
+    go : (v : Refusal) → firstAfter v (none ∷ none ∷ w ∷ []) ≡ firstAfter v (w ∷ [])
+    go v = step (eqb (v .number) 0) refl
+      where
+        step : (b : Bool) → eqb (v .number) 0 ≡ b → firstAfter v (none ∷ none ∷ w ∷ []) ≡ firstAfter v (w ∷ [])
+        step true t = rw t
+        step false t = rw (t, t, t)

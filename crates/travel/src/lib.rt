@@ -113,7 +113,10 @@ pub fn segments_good(segments: &[u64]) -> bool
     let n = segments.len() / SEGMENT_WIDTH;
     laws::both(
         segments.len() % SEGMENT_WIDTH == 0,
-        laws::both(laws::within(1, n as u64, MOST_SEGMENTS as u64), first_bad(segments) == n),
+        laws::both(
+            laws::within(1, n as u64, MOST_SEGMENTS as u64),
+            first_bad(segments) == n,
+        ),
     )
 }
 

@@ -37,7 +37,7 @@ abbrev listed : tie.Else1 → tie.Start
 listed c = c .before .before .before .before .before .before .before
 
 abbrev tabled : tie.Else2 → tie.Start
-tabled c = listed (c .before .before .before .before)
+tabled c = listed (c .before .before .before)
 
 lists : tie.Need-returns
 unfolding markRefusal
@@ -51,13 +51,13 @@ half c κs =
     mark-ready (s .args .setup) (l s) (all-pass (front s) (sym (ap number (c .before .before .mark-checks .ensures)) ∙ c .if1 .left)) .step
 
 -- 1, 2, 4, 12 and 13
-found : (c : tie.After-pond-checks) → let s = listed (c .before .before) in c .pond-checks .result ≡ firstRefusal (front s ++ table s)
-found c = c .pond-checks .ensures ∙ goes-on (front (listed (c .before .before))) _ _ (c .before .before .before .before .mark-checks .ensures) (c .before .before .if1 .left)
+found : (c : tie.After-pond-checks) → let s = listed (c .before) in c .pond-checks .result ≡ firstRefusal (front s ++ table s)
+found c = c .pond-checks .ensures ∙ goes-on (front (listed (c .before))) _ _ (c .before .before .before .mark-checks .ensures) (c .before .if1 .left)
 
 pond : tie.Need-returns-2
 unfolding markRefusal
 pond c =
-    let s = listed (c .before .before .before .before) in
+    let s = listed (c .before .before .before) in
     stops (front s ++ table s) (rest s) (found (c .before .before)) (c .if2 .taken)
 
 forged : tie.Need-forged-check-requires

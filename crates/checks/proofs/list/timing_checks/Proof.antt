@@ -72,8 +72,7 @@ again c =
     let D = s .args .setup in
     let tc = told (c .before .before .before .before .before .before) in
     let ten = c .before .before in
-    let nine = c .before .before .before .before in
-    (
+    let nine = c .before .before .before .before in (
       omega arith,
       (
         one-record (slow-test D) l 8 (g .i) (nine .or .ensures) (g .inv .1 .0) (charged 9 (g .i + 1) (nine .before .concentration-check .ensures) (ap concentrationGood tc)),
