@@ -1,8 +1,6 @@
 // Runs outside figures through the engine and prints each beside what it should be. The figures are
 // the manuals' own and document 01's; none was made by the engine.
-mod engine;
 mod phrases;
-mod ponds;
 mod row;
 mod say;
 mod tally;

@@ -1,14 +1,13 @@
 // One row: the engine's figures beside what they should be, and beside a printed figure.
 // Fields: label, expected, printed, unit, note, times, per, function, numbers.
-use crate::engine;
-use crate::engine::Figures;
 use crate::phrases;
 use crate::say;
 use crate::text;
-use crate::text::NONE;
 use crate::text::field;
 use crate::verdict;
 use crate::verdict::Verdict;
+use guarded::Figures;
+use guarded::NONE;
 use laws::both;
 
 // A printed cell that the manual's text lost has nothing to disagree with.
@@ -81,5 +80,5 @@ pub(crate) fn row(word: &[u8], line: &[u8]) -> Verdict {
     }
     let mut n = [0u64; 96];
     let k = text::list(field(line, 8), &mut n);
-    judged(line, engine::worked(function, &n[..k]))
+    judged(line, guarded::worked(function, &n[..k]))
 }

@@ -1,6 +1,6 @@
 // Printing, on standard output.
 use crate::phrases;
-use crate::text::NONE;
+use guarded::NONE;
 use libc::STDOUT_FILENO;
 
 pub(crate) fn bytes(s: &[u8]) {

@@ -1,12 +1,10 @@
 // Reading: lines, fields, whole numbers, printed figures and lists, out of bytes. A text that is no
-// number reads as NONE, which is above every limit of the engine, so that a row with one is
-// reported and never run.
+// number reads as NONE, so that a row with one is reported and never run.
+use guarded::NONE;
 ghost use Prim.Native.Nat.{_≤_};
 ghost use lib.ListN.{length};
 ghost use Rattle.io.specs.Counts.{Counts};
 ghost use Rattle.figures.specs.Bounds.{Within};
-
-pub(crate) const NONE: u64 = 1000000000000000;
 
 // The first place from `from` on that holds a byte, or the end.
 pub(crate) fn find(s: &[u8], from: usize, sought: u8) -> usize

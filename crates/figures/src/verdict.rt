@@ -2,7 +2,7 @@
 use crate::phrases;
 use crate::say;
 use crate::text;
-use crate::text::NONE;
+use guarded::NONE;
 
 // A row that was not run has no engine verdict; one with no printed figure has no printed one. An
 // unreadable row counts as run and not right.

@@ -1,4 +1,4 @@
--- An edit of the gathered records is an edit of the list flattened, also past 16 records. Assumes nothing.
+-- An edit of the gathered records is an edit of the list flattened, also where there are too many. Assumes nothing.
 use mathlib.Core.Path.{_≡_, sym, ap, _∙_, subst}
 use mathlib.Core.Bool.{false}
 use mathlib.Core.Logic.{⊎-elim}
@@ -8,10 +8,12 @@ use lib.IntN.{ℤ}
 use lib.ListN.{length}
 use borrow.Author.Tests.{ne-eqb}
 use Rattle.laws.proofs.Num.{below-or-not}
-use Rattle.study.specs.declared.Setup.{Setup}
-use Rattle.study.specs.declared.Refusal.{Refusal}
-use Rattle.study.specs.Refusals.{recordsGood, runChecks}
-use Rattle.study.proofs.Orders.{or-first}
+use Rattle.study.specs.Records.{mostSubareas}
+use Rattle.subarea.specs.declared.Setup.{Setup}
+use Rattle.refusals.specs.declared.Refusal.{Refusal}
+use Rattle.checks.specs.Order.{recordsGood}
+use Rattle.study.specs.Refusals.{runChecks}
+use Rattle.refusals.proofs.Orders.{or-first}
 use Rattle.edit.specs.declared.EditAnswer.{EditAnswer}
 use Rattle.edit.specs.Refusals.{listsRefusal, editRefusal}
 use Rattle.edit.specs.Edit.{editAnswer, inflowAfter, outflowAfter, storageAfter, editRefusalIn, editValuesIn}
@@ -84,10 +86,10 @@ module _ (step first : ℕ) (rain pond inflow outflow storage : List ℕ) (place
   EditIs r i o t z c = NumberIs r × (AnswerIs z × (ChangesIs c × (InflowIs i × (OutflowIs o × StorageIs t))))
 
 module _ (step first : ℕ) (rain pond inflow outflow storage : List ℕ) (place : ℕ) (fresh : List ℕ) (r : ℕ) (i o t z : List ℕ) (c : List ℤ) where
-  abbrev Is : List ℕ → Type 0
-  Is s = EditIs step first rain pond inflow outflow storage place fresh s r i o t z c
+  abbrev pub Says : List ℕ → Type 0
+  Says s = EditIs step first rain pond inflow outflow storage place fresh s r i o t z c
 
-  refused-alike : (s u : List ℕ) → recordsGood s ≡ false → recordsGood u ≡ false → Is s → Is u
+  refused-alike : (s u : List ℕ) → recordsGood s ≡ false → recordsGood u ≡ false → Says s → Says u
   refused-alike s u e f k =
       let g = setupOf step first in
       let same = answer-alike g rain pond inflow outflow storage place fresh s u e f in (
@@ -107,9 +109,9 @@ module _ (step first : ℕ) (rain pond inflow outflow storage : List ℕ) (place
         ),
       )
 
-  pub promised : (ss : List Subarea) → Is (handed (gathered ss) (length ss)) → Is (flatOf ss)
+  pub promised : (ss : List Subarea) → Says (handed (gathered ss) (length ss)) → Says (flatOf ss)
   promised ss k =
       ⊎-elim
       (λ h. refused-alike (handed (gathered ss) (length ss)) (flatOf ss) (ap recordsGood (handed-none ss h) ∙ none-refused) (many-refused ss h) k)
-      (λ h. subst Is (handed-flat ss h) k)
-      (below-or-not 16 (length ss))
+      (λ h. subst Says (handed-flat ss h) k)
+      (below-or-not mostSubareas (length ss))

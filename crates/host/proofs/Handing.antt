@@ -1,4 +1,4 @@
--- Of a list of at most 16 records, what is handed on is the list flattened; of more, nothing. Assumes nothing.
+-- Of a list that a study takes, what is handed on is the list flattened; of one with too many records, nothing. Assumes nothing.
 use mathlib.Core.Path.{_≡_, refl, sym, ap, _∙_}
 use mathlib.Core.Bool.{Bool, true, false}
 use Prim.Native.Nat.{ℕ, zero, suc, _+_, _*_, _≤_, _<_}
@@ -9,25 +9,26 @@ use lib.Seq.{sets, sets-eq, take-at}
 use lib.Dec.{ltb}
 use borrow.Author.Tests.{lt-ltb, le-ltb, ltb-true, ltb-false}
 use Rattle.laws.specs.Pick.{pick}
-use Rattle.study.specs.Records.{width}
+use Rattle.subarea.specs.Records.{width}
+use Rattle.study.specs.Records.{mostPatches, mostSegments, mostSubareas}
 use Rattle.host.specs.declared.records.Subarea.{Subarea}
 use Rattle.host.specs.Flattened.{patchesTo, segmentsTo, recordOf, flatOf}
-use Rattle.host.specs.Gathered.{capped, blank, putAt, noRecord, fillTo, gathered, used, handed}
+use Rattle.host.specs.Gathered.{mostNumbers, capped, blank, putAt, noRecord, fillTo, gathered, used, handed}
 use Rattle.host.proofs.Stores.{sets-on, patches-length, segments-length}
 
-lesser : (n : ℕ) (t : Bool) → ltb n 16 ≡ t → (pick t n 16 ≤ n) × (pick t n 16 ≤ 16)
-lesser n true e = (omega arith, omega (arith, ltb-true n 16 e))
-lesser n false e = (omega (arith, ltb-false n 16 e), omega arith)
+lesser : (n : ℕ) (t : Bool) → ltb n mostSubareas ≡ t → (pick t n mostSubareas ≤ n) × (pick t n mostSubareas ≤ mostSubareas)
+lesser n true e = (omega arith, omega (arith, ltb-true n mostSubareas e))
+lesser n false e = (omega (arith, ltb-false n mostSubareas e), omega arith)
 
-pub capped-least : (n : ℕ) → (capped n ≤ n) × (capped n ≤ 16)
-capped-least n = lesser n (ltb n 16) refl
+pub capped-least : (n : ℕ) → (capped n ≤ n) × (capped n ≤ mostSubareas)
+capped-least n = lesser n (ltb n mostSubareas) refl
 
--- a record has 44 numbers
+-- a record is so wide
 pub record-length : (s : Subarea) → length (recordOf s) ≡ width
 unfolding recordOf
 record-length s =
-    length-append (s .«patch_count» ∷ patchesTo 8 (s .patches)) (s .«segment_count» ∷ segmentsTo 6 (s .segments))
-    ∙ omega (arith, patches-length 8 (s .patches), segments-length 6 (s .segments))
+    length-append (s .«patch_count» ∷ patchesTo mostPatches (s .patches)) (s .«segment_count» ∷ segmentsTo mostSegments (s .segments))
+    ∙ omega (arith, patches-length mostPatches (s .patches), segments-length mostSegments (s .segments))
 
 pub flat-length : (ss : List Subarea) → length (flatOf ss) ≡ width * length ss
 unfolding flatOf
@@ -54,11 +55,11 @@ filled (suc i) ss =
     ∙ ap (λ (n : ℕ). sets (sets (blank .numbers) 0 (flatTo i ss)) n z) (sym (omega (arith, to-length i ss)))
     ∙ sets-on (flatTo i ss) z (blank .numbers) 0
 
-blank-length : length (blank .numbers) ≡ 704
+blank-length : length (blank .numbers) ≡ mostNumbers
 unfolding blank
-blank-length = length-replicate {A = ℕ} 704 0
+blank-length = length-replicate {A = ℕ} mostNumbers 0
 
-first-filled : (i : ℕ) (ss : List Subarea) → i ≤ 16 → take (width * i) (fillTo i ss .numbers) ≡ flatTo i ss
+first-filled : (i : ℕ) (ss : List Subarea) → i ≤ mostSubareas → take (width * i) (fillTo i ss .numbers) ≡ flatTo i ss
 first-filled i ss h =
     ap (λ (l : List ℕ). take (width * i) l) (filled i ss ∙ sets-eq (flatTo i ss) (blank .numbers) 0 (omega (arith, to-length i ss, blank-length)))
     ∙ take-at (flatTo i ss) (drop (0 + length (flatTo i ss)) (blank .numbers)) (width * i) (omega (arith, to-length i ss))
@@ -75,31 +76,31 @@ unfolding flatTo flatOf
 to-all [] = refl
 to-all (s ∷ ss) = to-cons (length ss) s ss ∙ ap (λ (l : List ℕ). recordOf s ++ l) (to-all ss)
 
-capped-small : (n : ℕ) → n ≤ 16 → capped n ≡ n
-capped-small n h = go (ltb n 16) refl
+capped-small : (n : ℕ) → n ≤ mostSubareas → capped n ≡ n
+capped-small n h = go (ltb n mostSubareas) refl
   where
-    go : (t : Bool) → ltb n 16 ≡ t → pick t n 16 ≡ n
+    go : (t : Bool) → ltb n mostSubareas ≡ t → pick t n mostSubareas ≡ n
     go true e = refl
-    go false e = omega (arith, h, ltb-false n 16 e)
+    go false e = omega (arith, h, ltb-false n mostSubareas e)
 
-gathered-flat : (ss : List Subarea) → length ss ≤ 16 → take (width * length ss) (gathered ss .numbers) ≡ flatOf ss
+gathered-flat : (ss : List Subarea) → length ss ≤ mostSubareas → take (width * length ss) (gathered ss .numbers) ≡ flatOf ss
 unfolding gathered
 gathered-flat ss h =
     ap (λ (n : ℕ). take (width * length ss) (fillTo n ss .numbers)) (capped-small (length ss) h) ∙ first-filled (length ss) ss h ∙ to-all ss
 
-pub handed-flat : (ss : List Subarea) → length ss ≤ 16 → handed (gathered ss) (length ss) ≡ flatOf ss
+pub handed-flat : (ss : List Subarea) → length ss ≤ mostSubareas → handed (gathered ss) (length ss) ≡ flatOf ss
 unfolding handed used
-handed-flat ss h = rw (le-ltb 16 (length ss) h) (gathered-flat ss h)
+handed-flat ss h = rw (le-ltb mostSubareas (length ss) h) (gathered-flat ss h)
 
-pub handed-none : (ss : List Subarea) → 16 < length ss → handed (gathered ss) (length ss) ≡ []
+pub handed-none : (ss : List Subarea) → mostSubareas < length ss → handed (gathered ss) (length ss) ≡ []
 unfolding handed used
-handed-none ss h = simp (lt-ltb 16 (length ss) h)
+handed-none ss h = simp (lt-ltb mostSubareas (length ss) h)
 
--- no more is handed on than 16 records have
-pub used-most : (n : ℕ) → used n ≤ 704
+-- no more is handed on than there is room for
+pub used-most : (n : ℕ) → used n ≤ mostNumbers
 unfolding used
-used-most n = go (ltb 16 n) refl
+used-most n = go (ltb mostSubareas n) refl
   where
-    go : (t : Bool) → ltb 16 n ≡ t → pick t 0 (width * n) ≤ 704
+    go : (t : Bool) → ltb mostSubareas n ≡ t → pick t 0 (width * n) ≤ mostNumbers
     go true e = omega arith
-    go false e = omega (arith, ltb-false 16 n e)
+    go false e = omega (arith, ltb-false mostSubareas n e)

@@ -4,7 +4,7 @@ pub mod Handing
 pub mod Refused
 pub mod StudyPromise
 pub mod EditPromise
-pub mod Saying
+pub mod Walking
 pub mod OneSaid
 pub mod RecordAnswers
 pub mod Answers

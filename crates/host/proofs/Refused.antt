@@ -1,4 +1,4 @@
--- Lists that refusal 5 refuses are refused alike, whatever they hold; a list of more than 16 records is one. Assumes nothing.
+-- Lists that refusal 5 refuses are refused alike, whatever they hold; a list of too many records is one. Assumes nothing.
 use mathlib.Core.Path.{_≡_, refl, sym, ap, _∙_}
 use mathlib.Core.Bool.{Bool, true, false}
 use mathlib.Core.List.{List, []}
@@ -9,11 +9,14 @@ use lib.Dec.{eqb}
 use lib.ListN.{length}
 use Rattle.laws.specs.Within.{within}
 use Rattle.laws.proofs.Tests.{both-right, kept}
-use Rattle.study.specs.declared.Setup.{Setup}
-use Rattle.study.specs.Records.{width, count}
-use Rattle.study.specs.Refusals.{unless, lengthsGood, stepGood, rainCheck, lastGood, recordsGood, runChecks, checksOf}
-use Rattle.study.specs.Study.{refusalOf, answerOf, after}
-use Rattle.study.proofs.Orders.{or-first, or-none}
+use Rattle.subarea.specs.declared.Setup.{Setup}
+use Rattle.subarea.specs.Records.{width, recordsIn}
+use Rattle.study.specs.Records.{mostSubareas}
+use Rattle.refusals.specs.Refusals.{unless, after}
+use Rattle.checks.specs.Order.{lengthsGood, stepGood, lastGood, recordsGood}
+use Rattle.study.specs.Refusals.{rainCheck, runChecks, checksOf}
+use Rattle.study.specs.Study.{refusalOf, answerOf}
+use Rattle.refusals.proofs.Orders.{or-first, or-none}
 use Rattle.host.specs.declared.records.Subarea.{Subarea}
 use Rattle.host.specs.Flattened.{flatOf}
 use Rattle.host.proofs.Handing.{flat-length}
@@ -23,13 +26,13 @@ pub none-refused : recordsGood [] ≡ false
 unfolding recordsGood
 none-refused = refl
 
--- the numbers of more than 16 records are
-pub many-refused : (ss : List Subarea) → 16 < length ss → recordsGood (flatOf ss) ≡ false
+-- the numbers of too many records are
+pub many-refused : (ss : List Subarea) → mostSubareas < length ss → recordsGood (flatOf ss) ≡ false
 unfolding recordsGood
 many-refused ss h = go (recordsGood (flatOf ss)) refl
   where
     go : (b : Bool) → recordsGood (flatOf ss) ≡ b → b ≡ false
-    go true e = absurd (omega (arith, h, flat-length ss, kept 1 (count (flatOf ss)) 16 (both-right (eqb (length (flatOf ss) % width) 0) (within 1 (count (flatOf ss)) 16) e) .high))
+    go true e = absurd (omega (arith, h, flat-length ss, kept 1 (recordsIn (flatOf ss)) mostSubareas (both-right (eqb (length (flatOf ss) % width) 0) (within 1 (recordsIn (flatOf ss)) mostSubareas) e) .high))
     go false e = refl
 
 module _ (D first : ℕ) (rain : List ℕ) (m o t : ℕ) where

@@ -7,6 +7,7 @@ use native.Mathlib.Omega.{arith}
 use mathlib.Core.List.{List, [], _∷_, _++_}
 use lib.ListN.{length, getD, set, length-append}
 use lib.Seq.{sets}
+use Rattle.study.specs.Records.{mostPatches, patchesFrom, patchWidth, segmentCountAt, segmentsFrom, segmentWidth}
 use Rattle.host.specs.Flattened.{noPatch, noSegment, patchNumbers, segmentNumbers, patchesTo, segmentsTo}
 use Rattle.host.specs.declared.records.Patch.{Patch}
 use Rattle.host.specs.declared.records.Segment.{Segment}
@@ -20,12 +21,12 @@ sets-on (a ∷ vs) ws l i =
 pub sets-at : (vs ws l : List ℕ) (i n : ℕ) → length vs ≡ n → sets (sets l i vs) (i + n) ws ≡ sets l i (vs ++ ws)
 sets-at vs ws l i n e = ap (λ (k : ℕ). sets (sets l i vs) (i + k) ws) (sym e) ∙ sets-on vs ws l i
 
-pub patches-length : (k : ℕ) (ps : List Patch) → length (patchesTo k ps) ≡ 3 * k
+pub patches-length : (k : ℕ) (ps : List Patch) → length (patchesTo k ps) ≡ patchWidth * k
 unfolding patchesTo
 patches-length zero ps = refl
 patches-length (suc k) ps = length-append (patchesTo k ps) (patchNumbers (getD ps k noPatch)) ∙ omega (arith, patches-length k ps)
 
-pub segments-length : (k : ℕ) (gs : List Segment) → length (segmentsTo k gs) ≡ 3 * k
+pub segments-length : (k : ℕ) (gs : List Segment) → length (segmentsTo k gs) ≡ segmentWidth * k
 unfolding segmentsTo
 segments-length zero gs = refl
 segments-length (suc k) gs = length-append (segmentsTo k gs) (segmentNumbers (getD gs k noSegment)) ∙ omega (arith, segments-length k gs)
@@ -40,19 +41,20 @@ unfolding segmentsTo
 segments-next k gs = ap (λ (n : ℕ). segmentsTo n gs) (sym (add-one k))
 
 -- a turn of a loop
-pub patches-step : (l xs ys : List ℕ) (at k : ℕ) (ps : List Patch) → xs ≡ sets l at (patchesTo k ps) → ys ≡ sets xs (at + 3 * k) (patchNumbers (getD ps k noPatch)) → ys ≡ sets l at (patchesTo (k + 1) ps)
+pub patches-step : (l xs ys : List ℕ) (at k : ℕ) (ps : List Patch) → xs ≡ sets l at (patchesTo k ps) → ys ≡ sets xs (at + patchWidth * k) (patchNumbers (getD ps k noPatch)) → ys ≡ sets l at (patchesTo (k + 1) ps)
 patches-step l xs ys at k ps e d =
-    d ∙ ap (λ (zs : List ℕ). sets zs (at + 3 * k) (patchNumbers (getD ps k noPatch))) e ∙ sets-at (patchesTo k ps) (patchNumbers (getD ps k noPatch)) l at (3 * k) (patches-length k ps)
+    d ∙ ap (λ (zs : List ℕ). sets zs (at + patchWidth * k) (patchNumbers (getD ps k noPatch))) e ∙ sets-at (patchesTo k ps) (patchNumbers (getD ps k noPatch)) l at (patchWidth * k) (patches-length k ps)
     ∙ ap (λ (vs : List ℕ). sets l at vs) (patches-next k ps)
 
-pub segments-step : (l xs ys : List ℕ) (at k : ℕ) (gs : List Segment) → xs ≡ sets l at (segmentsTo k gs) → ys ≡ sets xs (at + 3 * k) (segmentNumbers (getD gs k noSegment)) → ys ≡ sets l at (segmentsTo (k + 1) gs)
+pub segments-step : (l xs ys : List ℕ) (at k : ℕ) (gs : List Segment) → xs ≡ sets l at (segmentsTo k gs) → ys ≡ sets xs (at + segmentWidth * k) (segmentNumbers (getD gs k noSegment)) → ys ≡ sets l at (segmentsTo (k + 1) gs)
 segments-step l xs ys at k gs e d =
-    d ∙ ap (λ (zs : List ℕ). sets zs (at + 3 * k) (segmentNumbers (getD gs k noSegment))) e ∙ sets-at (segmentsTo k gs) (segmentNumbers (getD gs k noSegment)) l at (3 * k) (segments-length k gs)
+    d ∙ ap (λ (zs : List ℕ). sets zs (at + segmentWidth * k) (segmentNumbers (getD gs k noSegment))) e ∙ sets-at (segmentsTo k gs) (segmentNumbers (getD gs k noSegment)) l at (segmentWidth * k) (segments-length k gs)
     ∙ ap (λ (vs : List ℕ). sets l at vs) (segments-next k gs)
 
 -- a whole record: a number, a run, a number, a run
-pub record-stores : (f xs ys P G : List ℕ) (at a b : ℕ) → length P ≡ 24 → xs ≡ sets (set f at a) (at + 1) P → ys ≡ sets (set xs (at + 25) b) (at + 25 + 1) G → ys ≡ sets f at ((a ∷ P) ++ (b ∷ G))
+pub record-stores : (f xs ys P G : List ℕ) (at a b : ℕ) → length P ≡ patchWidth * mostPatches → xs ≡ sets (set f at a) (at + patchesFrom) P → ys ≡ sets (set xs (at + segmentCountAt) b) (at + segmentsFrom) G
+    → ys ≡ sets f at ((a ∷ P) ++ (b ∷ G))
 record-stores f xs ys P G at a b len e d =
-    d ∙ ap (λ (n : ℕ). sets (set xs (at + 25) b) n G) (omega arith)
-    ∙ ap (λ (zs : List ℕ). sets (set zs (at + 25) b) (suc (at + 25)) G) (e ∙ ap (λ (n : ℕ). sets (set f at a) n P) (add-one at))
-    ∙ sets-at (a ∷ P) (b ∷ G) f at 25 (ap suc len)
+    d ∙ ap (λ (n : ℕ). sets (set xs (at + segmentCountAt) b) n G) (omega arith)
+    ∙ ap (λ (zs : List ℕ). sets (set zs (at + segmentCountAt) b) (suc (at + segmentCountAt)) G) (e ∙ ap (λ (n : ℕ). sets (set f at a) n P) (add-one at))
+    ∙ sets-at (a ∷ P) (b ∷ G) f at segmentCountAt (ap suc len)

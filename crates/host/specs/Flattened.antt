@@ -1,7 +1,8 @@
--- Document 01, 'What a study is made of': a list of records as one flat list of numbers, 44 a record.
+-- Document 01, 'What a study is made of': a list of records as one flat list of numbers.
 use mathlib.Core.List.{List, [], _∷_, _++_}
 use Prim.Native.Nat.{ℕ, zero, suc}
 use lib.ListN.{getD}
+use Rattle.study.specs.Records.{mostPatches, mostSegments}
 use Rattle.host.specs.declared.records.Patch.{Patch}
 use Rattle.host.specs.declared.records.Segment.{Segment}
 use Rattle.host.specs.declared.records.Subarea.{Subarea}
@@ -12,7 +13,7 @@ patchNumbers p = p .cover ∷ p .soil ∷ p .area ∷ []
 abbrev pub segmentNumbers : Segment → List ℕ
 segmentNumbers g = g .kind ∷ g .length ∷ g .rate ∷ []
 
--- a record's arrays have 8 patches and 6 segments, so that neither of these is read
+-- a record's arrays are full, so that neither of these is read
 abbrev pub noPatch : Patch
 noPatch = record { cover = 0; soil = 0; area = 0 }
 
@@ -28,9 +29,9 @@ unfoldable pub segmentsTo : ℕ → List Segment → List ℕ
 segmentsTo zero gs = []
 segmentsTo (suc k) gs = segmentsTo k gs ++ segmentNumbers (getD gs k noSegment)
 
--- a record's 44 numbers: patch count, 8 patches, segment count, 6 segments
+-- a record's numbers: patch count, patches, segment count, segments
 unfoldable pub recordOf : Subarea → List ℕ
-recordOf s = (s .«patch_count» ∷ patchesTo 8 (s .patches)) ++ (s .«segment_count» ∷ segmentsTo 6 (s .segments))
+recordOf s = (s .«patch_count» ∷ patchesTo mostPatches (s .patches)) ++ (s .«segment_count» ∷ segmentsTo mostSegments (s .segments))
 
 -- the records, one after the other
 unfoldable pub flatOf : List Subarea → List ℕ

@@ -5,17 +5,22 @@ use lib.ListN.{length, getD, take, replicate}
 use lib.Seq.{sets}
 use lib.Dec.{ltb}
 use Rattle.laws.specs.Pick.{pick}
-use Rattle.study.specs.Records.{width}
+use Rattle.subarea.specs.Records.{width}
+use Rattle.study.specs.Records.{mostSubareas}
 use Rattle.host.specs.declared.records.Subarea.{Subarea}
 use Rattle.host.specs.declared.gathering.Flat.{Flat}
 use Rattle.host.specs.Flattened.{recordOf}
 
--- the lesser of n and 16
+-- how many numbers there is room for
+abbrev pub mostNumbers : ℕ
+mostNumbers = mostSubareas * width
+
+-- no more records than a study takes
 abbrev pub capped : ℕ → ℕ
-capped n = pick (ltb n 16) n 16
+capped n = pick (ltb n mostSubareas) n mostSubareas
 
 unfoldable pub blank : Flat
-blank = record { numbers = replicate 704 0 }
+blank = record { numbers = replicate mostNumbers 0 }
 
 -- record i in its place
 unfoldable pub putAt : Flat → ℕ → Subarea → Flat
@@ -33,9 +38,9 @@ fillTo (suc i) ss = putAt (fillTo i ss) i (getD ss i noRecord)
 unfoldable pub gathered : List Subarea → Flat
 gathered ss = fillTo (capped (length ss)) ss
 
--- the numbers of n records, none for more than 16
+-- the numbers of n records, none for too many
 unfoldable pub used : ℕ → ℕ
-used n = pick (ltb 16 n) 0 (width * n)
+used n = pick (ltb mostSubareas n) 0 (width * n)
 
 unfoldable pub handed : Flat → ℕ → List ℕ
 handed f n = take (used n) (f .numbers)

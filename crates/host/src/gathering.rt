@@ -2,35 +2,43 @@
 use crate::records::Patch;
 use crate::records::Segment;
 use crate::records::Subarea;
+use study::subarea;
 ghost use mathlib.Core.Path.{_≡_};
 ghost use mathlib.Core.List.{[], _∷_};
-ghost use Prim.Native.Nat.{_<_};
+ghost use Prim.Native.Nat.{_+_, _*_, _≤_, _<_};
 ghost use lib.Seq.{sets};
+ghost use Rattle.study.specs.Records.{mostPatches, mostSegments, mostSubareas, patchWidth, segmentWidth};
 ghost use Rattle.host.specs.Flattened.{patchesTo, segmentsTo};
-ghost use Rattle.host.specs.Gathered.{capped, blank, putAt, gathered};
+ghost use Rattle.host.specs.Gathered.{mostNumbers, capped, blank, putAt, gathered};
 
-// The numbers of 16 records.
+const MOST_NUMBERS: usize = subarea::MOST_SUBAREAS * subarea::WIDTH;
+
+// The numbers of as many records as a study takes.
 pub(crate) struct Flat {
-    pub(crate) numbers: [u64; 704],
+    pub(crate) numbers: [u64; MOST_NUMBERS],
 }
 
-// No more than 16 records are read.
+// No more records are read than a study takes.
 fn at_most(n: usize) -> usize
     ensures { λ r. ⌜ r ≡ capped n ⌝ }
 {
-    if n < 16 { n } else { 16 }
+    if n < subarea::MOST_SUBAREAS {
+        n
+    } else {
+        subarea::MOST_SUBAREAS
+    }
 }
 
 fn zeros() -> Flat
     ensures { λ r. ⌜ r ≡ blank ⌝ }
 {
-    let numbers = [0u64; 704];
+    let numbers = [0u64; MOST_NUMBERS];
     Flat { numbers }
 }
 
 // Three numbers, from a place on.
-fn put_three(to: &mut [u64; 704], at: usize, x: u64, y: u64, z: u64)
-    requires { ⌜ at < 702 ⌝ }
+fn put_three(to: &mut [u64; MOST_NUMBERS], at: usize, x: u64, y: u64, z: u64)
+    requires { ⌜ at + 3 ≤ mostNumbers ⌝ }
     ensures { λ _. ⌜ now (to .exit) ≡ sets (now (to .entry)) at (x ∷ y ∷ z ∷ []) ⌝ }
 {
     let b = at + 1;
@@ -40,48 +48,54 @@ fn put_three(to: &mut [u64; 704], at: usize, x: u64, y: u64, z: u64)
     to[c] = z;
 }
 
-fn put_patches(to: &mut [u64; 704], at: usize, own: [Patch; 8])
-    requires { ⌜ at < 670 ⌝ }
-    ensures { λ _. ⌜ now (to .exit) ≡ sets (now (to .entry)) at (patchesTo 8 own) ⌝ }
+fn put_patches(to: &mut [u64; MOST_NUMBERS], at: usize, own: [Patch; subarea::MOST_PATCHES])
+    requires { ⌜ at + patchWidth * mostPatches ≤ mostNumbers ⌝ }
+    ensures { λ _. ⌜ now (to .exit) ≡ sets (now (to .entry)) at (patchesTo mostPatches own) ⌝ }
 {
     let mut k: usize = 0;
-    while k < 8 {
+    while k < subarea::MOST_PATCHES {
         let p = own[k];
-        put_three(to, at + 3 * k, p.cover, p.soil, p.area);
+        put_three(to, at + subarea::PATCH_WIDTH * k, p.cover, p.soil, p.area);
         k += 1;
     }
 }
 
-fn put_segments(to: &mut [u64; 704], at: usize, own: [Segment; 6])
-    requires { ⌜ at < 687 ⌝ }
-    ensures { λ _. ⌜ now (to .exit) ≡ sets (now (to .entry)) at (segmentsTo 6 own) ⌝ }
+fn put_segments(to: &mut [u64; MOST_NUMBERS], at: usize, own: [Segment; subarea::MOST_SEGMENTS])
+    requires { ⌜ at + segmentWidth * mostSegments ≤ mostNumbers ⌝ }
+    ensures { λ _. ⌜ now (to .exit) ≡ sets (now (to .entry)) at (segmentsTo mostSegments own) ⌝ }
 {
     let mut k: usize = 0;
-    while k < 6 {
+    while k < subarea::MOST_SEGMENTS {
         let g = own[k];
-        put_three(to, at + 3 * k, g.kind, g.length, g.rate);
+        put_three(
+            to,
+            at + subarea::SEGMENT_WIDTH * k,
+            g.kind,
+            g.length,
+            g.rate,
+        );
         k += 1;
     }
 }
 
 // Record i in its place.
 fn put(flat: Flat, i: usize, own: Subarea) -> Flat
-    requires { ⌜ i < 16 ⌝ }
+    requires { ⌜ i < mostSubareas ⌝ }
     ensures { λ r. ⌜ r ≡ putAt flat i own ⌝ }
 {
-    let at = i * study::subarea::WIDTH;
-    let next = at + 25;
+    let at = i * subarea::WIDTH;
+    let next = at + subarea::SEGMENT_COUNT;
     let mut numbers = flat.numbers;
     let patches = own.patches;
     let segments = own.segments;
     numbers[at] = own.patch_count;
-    put_patches(&mut numbers, at + 1, patches);
+    put_patches(&mut numbers, at + subarea::PATCHES, patches);
     numbers[next] = own.segment_count;
-    put_segments(&mut numbers, next + 1, segments);
+    put_segments(&mut numbers, at + subarea::SEGMENTS, segments);
     Flat { numbers }
 }
 
-// The first 16 records, or all. By hand: the one loop over the lent records.
+// As many records as a study takes, or all. Proved by hand: the one loop over the lent records.
 pub(crate) fn gather(list: &[Subarea]) -> Flat
     ensures { λ r. ⌜ r ≡ gathered (now (list .entry)) ⌝ }
 {

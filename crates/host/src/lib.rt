@@ -5,7 +5,9 @@ pub mod records;
 use study::Setup;
 ghost use mathlib.Core.Path.{_≡_};
 ghost use lib.ListN.{length};
-ghost use Rattle.study.specs.Study.{answerOf, refusalOf, inflowRows, outflowRows, storageRows, after, refusalIn};
+ghost use Rattle.study.specs.Study.{answerOf, refusalOf, outflowRows, storageRows, studyRefusalIn};
+ghost use Rattle.inflow.specs.Inflow.{inflowRows};
+ghost use Rattle.refusals.specs.Refusals.{after};
 ghost use Rattle.answers.specs.Setups.{setupOf};
 ghost use Rattle.edit.specs.Edit.{editAnswer, inflowAfter, outflowAfter, storageAfter, editRefusalIn, editValuesIn};
 ghost use Rattle.answers.specs.StudyNumbers.{numbersOf};
@@ -27,7 +29,7 @@ pub extern "C" fn bt_study(
     storage: &mut [u64],
     answer: &mut [u64; 12],
 ) -> u64
-    ensures { λ r. ⌜ r ≡ refusalIn (answerOf (setupOf step first) (now (rain .entry)) (now (subareas .entry)) (now (pond .entry)) (length (now (inflow .entry))) (length (now (outflow .entry))) (length (now (storage .entry)))) .number ⌝ }
+    ensures { λ r. ⌜ r ≡ studyRefusalIn (answerOf (setupOf step first) (now (rain .entry)) (now (subareas .entry)) (now (pond .entry)) (length (now (inflow .entry))) (length (now (outflow .entry))) (length (now (storage .entry)))) .number ⌝ }
     ensures { λ _. ⌜ now (answer .exit) ≡ numbersOf (answerOf (setupOf step first) (now (rain .entry)) (now (subareas .entry)) (now (pond .entry)) (length (now (inflow .entry))) (length (now (outflow .entry))) (length (now (storage .entry)))) ⌝ }
     ensures { λ _. ⌜ now (inflow .exit) ≡ after (refusalOf (setupOf step first) (now (rain .entry)) (now (subareas .entry)) (now (pond .entry)) (length (now (inflow .entry))) (length (now (outflow .entry))) (length (now (storage .entry)))) (inflowRows step (now (rain .entry)) (now (subareas .entry)) (length (now (inflow .entry)))) (now (inflow .entry)) ⌝ }
     ensures { λ _. ⌜ now (outflow .exit) ≡ after (refusalOf (setupOf step first) (now (rain .entry)) (now (subareas .entry)) (now (pond .entry)) (length (now (inflow .entry))) (length (now (outflow .entry))) (length (now (storage .entry)))) (outflowRows step (now (rain .entry)) (now (subareas .entry)) (now (pond .entry)) (length (now (inflow .entry)))) (now (outflow .entry)) ⌝ }

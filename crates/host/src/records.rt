@@ -1,11 +1,14 @@
 // Thin entries over a lent list of records: the list is gathered into flat numbers, and the engine works on those. A slice of
-// structs is proved by walks of the code by hand: `gather` and the entries here, and no more.
+// structs is proved by a walk of the code: that of `gather` by hand, those of the entries here by tools/walks, and no more.
 use crate::gathering;
 use crate::gathering::Flat;
 use study::Setup;
+use study::subarea;
 ghost use mathlib.Core.Path.{_≡_};
 ghost use lib.ListN.{length};
-ghost use Rattle.study.specs.Study.{answerOf, refusalOf, inflowRows, outflowRows, storageRows, after, refusalIn};
+ghost use Rattle.study.specs.Study.{answerOf, refusalOf, outflowRows, storageRows, studyRefusalIn};
+ghost use Rattle.inflow.specs.Inflow.{inflowRows};
+ghost use Rattle.refusals.specs.Refusals.{after};
 ghost use Rattle.edit.specs.Edit.{editAnswer, inflowAfter, outflowAfter, storageAfter, editRefusalIn, editValuesIn};
 ghost use Rattle.answers.specs.Setups.{setupOf};
 ghost use Rattle.answers.specs.StudyNumbers.{numbersOf};
@@ -29,20 +32,24 @@ pub struct Segment {
     pub rate: u64,
 }
 
-// A subarea's record, laid out as its 44 numbers are in a flat list.
+// A subarea's record, laid out as its numbers are in a flat list.
 #[repr(C)]
 pub struct Subarea {
     pub patch_count: u64,
-    pub patches: [Patch; 8],
+    pub patches: [Patch; subarea::MOST_PATCHES],
     pub segment_count: u64,
-    pub segments: [Segment; 6],
+    pub segments: [Segment; subarea::MOST_SEGMENTS],
 }
 
-// How many numbers to hand on for n records: none for more than 16, so that the engine refuses them in its own order.
+// How many numbers to hand on for n records: none for too many, so that the engine refuses them in its own order.
 fn used_by(n: usize) -> usize
     ensures { λ r. ⌜ r ≡ used n ⌝ }
 {
-    if 16 < n { 0 } else { study::subarea::WIDTH * n }
+    if subarea::MOST_SUBAREAS < n {
+        0
+    } else {
+        subarea::WIDTH * n
+    }
 }
 
 // A study of n gathered records.
@@ -58,7 +65,7 @@ fn study_of(
     storage: &mut [u64],
     answer: &mut [u64; 12],
 ) -> u64
-    ensures { λ r. ⌜ r ≡ refusalIn (answerOf (setupOf step first) (now (rain .entry)) (handed flat n) (now (pond .entry)) (length (now (inflow .entry))) (length (now (outflow .entry))) (length (now (storage .entry)))) .number ⌝ }
+    ensures { λ r. ⌜ r ≡ studyRefusalIn (answerOf (setupOf step first) (now (rain .entry)) (handed flat n) (now (pond .entry)) (length (now (inflow .entry))) (length (now (outflow .entry))) (length (now (storage .entry)))) .number ⌝ }
     ensures { λ _. ⌜ now (answer .exit) ≡ numbersOf (answerOf (setupOf step first) (now (rain .entry)) (handed flat n) (now (pond .entry)) (length (now (inflow .entry))) (length (now (outflow .entry))) (length (now (storage .entry)))) ⌝ }
     ensures { λ _. ⌜ now (inflow .exit) ≡ after (refusalOf (setupOf step first) (now (rain .entry)) (handed flat n) (now (pond .entry)) (length (now (inflow .entry))) (length (now (outflow .entry))) (length (now (storage .entry)))) (inflowRows step (now (rain .entry)) (handed flat n) (length (now (inflow .entry)))) (now (inflow .entry)) ⌝ }
     ensures { λ _. ⌜ now (outflow .exit) ≡ after (refusalOf (setupOf step first) (now (rain .entry)) (handed flat n) (now (pond .entry)) (length (now (inflow .entry))) (length (now (outflow .entry))) (length (now (storage .entry)))) (outflowRows step (now (rain .entry)) (handed flat n) (now (pond .entry)) (length (now (inflow .entry)))) (now (outflow .entry)) ⌝ }
@@ -84,7 +91,7 @@ pub extern "C" fn bt_study_records(
     storage: &mut [u64],
     answer: &mut [u64; 12],
 ) -> u64
-    ensures { λ r. ⌜ r ≡ refusalIn (answerOf (setupOf step first) (now (rain .entry)) (flatOf (now (list .entry))) (now (pond .entry)) (length (now (inflow .entry))) (length (now (outflow .entry))) (length (now (storage .entry)))) .number ⌝ }
+    ensures { λ r. ⌜ r ≡ studyRefusalIn (answerOf (setupOf step first) (now (rain .entry)) (flatOf (now (list .entry))) (now (pond .entry)) (length (now (inflow .entry))) (length (now (outflow .entry))) (length (now (storage .entry)))) .number ⌝ }
     ensures { λ _. ⌜ now (answer .exit) ≡ numbersOf (answerOf (setupOf step first) (now (rain .entry)) (flatOf (now (list .entry))) (now (pond .entry)) (length (now (inflow .entry))) (length (now (outflow .entry))) (length (now (storage .entry)))) ⌝ }
     ensures { λ _. ⌜ now (inflow .exit) ≡ after (refusalOf (setupOf step first) (now (rain .entry)) (flatOf (now (list .entry))) (now (pond .entry)) (length (now (inflow .entry))) (length (now (outflow .entry))) (length (now (storage .entry)))) (inflowRows step (now (rain .entry)) (flatOf (now (list .entry))) (length (now (inflow .entry)))) (now (inflow .entry)) ⌝ }
     ensures { λ _. ⌜ now (outflow .exit) ≡ after (refusalOf (setupOf step first) (now (rain .entry)) (flatOf (now (list .entry))) (now (pond .entry)) (length (now (inflow .entry))) (length (now (outflow .entry))) (length (now (storage .entry)))) (outflowRows step (now (rain .entry)) (flatOf (now (list .entry))) (now (pond .entry)) (length (now (inflow .entry)))) (now (outflow .entry)) ⌝ }
@@ -117,7 +124,7 @@ fn edit_of(
     outflow: &mut [u64],
     storage: &mut [u64],
     place: u64,
-    fresh: &[u64; study::subarea::WIDTH],
+    fresh: &[u64; subarea::WIDTH],
     answer: &mut [u64; 13],
     changes: &mut [i64; 2],
 ) -> u64
@@ -157,7 +164,7 @@ pub extern "C" fn bt_edit_records(
     outflow: &mut [u64],
     storage: &mut [u64],
     place: u64,
-    fresh: &[u64; study::subarea::WIDTH],
+    fresh: &[u64; subarea::WIDTH],
     answer: &mut [u64; 13],
     changes: &mut [i64; 2],
 ) -> u64

@@ -1,19 +1,24 @@
 // The sheet, block by block: the site, the subareas, the pond, the rows and the figures.
 use crate::lists;
-use crate::say;
-use crate::site::PATCH;
-use crate::site::POND_ROW;
-use crate::site::SEGMENT;
-use crate::site::SEGMENT_COUNT;
-use crate::site::SUBAREAS;
-use crate::site::Site;
+use crate::texts;
+use laws::limits;
+use reading::items::PATCH;
+use reading::items::POND_ROW;
+use reading::items::SEGMENT;
+use reading::items::SUBAREAS;
+use reading::room::TRIPLE;
 use study::Figures;
-use study::subarea;
+use subarea::Setup;
 ghost use mathlib.Core.Path.{_≡_};
 ghost use Prim.Native.Nat.{_/_, _≤_};
 ghost use lib.ListN.{length};
-ghost use Rattle.pond.specs.PondRows.{PondOk};
+ghost use Rattle.pond.specs.Needs.{PondOk};
+ghost use Rattle.subarea.specs.Records.{width};
 ghost use Rattle.sheet.specs.Bounds.{AsMany};
+
+const LEAST_HALF: u64 = limits::LEAST_STEP / 2;
+
+const MOST_HALF: u64 = limits::MOST_STEP / 2;
 
 // The rain is cumulative, so that its last entry is the total.
 fn rain_total(rain: &[u64]) -> u64 {
@@ -24,22 +29,18 @@ fn rain_total(rain: &[u64]) -> u64 {
     }
 }
 
-fn heading(site: Site, rain: &[u64]) {
-    let words = b"DETENTION POND STUDY\n\
-        \n\
-        Step          | s = | (h:mm:ss)\n\
-        First row     |\n\
-        Rows          |\n\
-        Rain total    | in\n\
-        Rain entries  |\n";
-    say::with_number(words, 0, site.step);
-    say::piece(words, 1);
-    say::clock(site.step, 0);
-    say::with_number(words, 2, site.first);
-    say::with_number(words, 3, site.rows as u64);
-    say::with_thousandths(words, 4, rain_total(rain), 0);
-    say::with_number(words, 5, rain.len() as u64);
-    say::piece(words, 6);
+fn heading(setup: Setup, rows: u64, rain: &[u64]) {
+    texts::sheet(
+        texts::HEADING,
+        &[
+            setup.step,
+            setup.step,
+            setup.first,
+            rows,
+            rain_total(rain),
+            rain.len() as u64,
+        ],
+    );
 }
 
 // How many steps lie in five times the time to peak. No study has a step of 0.
@@ -51,7 +52,7 @@ fn weights(peak: u64, step: u64) -> u64
 
 // A study that was not refused has no record that fails these tests.
 fn subarea_line(step: u64, number: u64, own: &[u64])
-    requires { ⌜ length (now own) ≡ 44 ⌝ }
+    requires { ⌜ length (now own) ≡ width ⌝ }
 {
     if !subarea::patches_pass(own) {
         return;
@@ -62,22 +63,20 @@ fn subarea_line(step: u64, number: u64, own: &[u64])
     let ground = subarea::ground(own);
     let time = subarea::time(own);
     let peak = travel::time_to_peak(step, time);
-    say::right(number, 7);
-    say::hundredths(ground.area, 9);
-    say::right(ground.curve, 14);
-    say::right(time, 8);
-    say::right(peak, 8);
-    say::right(weights(peak, step), 9);
-    say::line_end();
+    let weights = weights(peak, step);
+    texts::sheet(
+        texts::SUBAREA,
+        &[number, ground.area, ground.curve, time, peak, weights],
+    );
 }
 
 // One record's lines in the block of its figures, its patches or its segments.
 fn record_lines(item: u64, step: u64, number: u64, own: &[u64])
-    requires { ⌜ length (now own) ≡ 44 ⌝ }
+    requires { ⌜ length (now own) ≡ width ⌝ }
 {
-    let a = 1;
-    let e = SEGMENT_COUNT;
-    let b = e + 1;
+    let a = subarea::PATCHES;
+    let e = subarea::SEGMENT_COUNT;
+    let b = subarea::SEGMENTS;
     match item {
         PATCH => lists::lines(item, number, &own[a..e]),
         SEGMENT => lists::lines(item, number, &own[b..]),
@@ -97,26 +96,23 @@ fn records(item: u64, step: u64, list: &[u64]) {
 }
 
 fn subarea_blocks(step: u64, list: &[u64]) {
-    let heads = b"\nSubarea    Area, ac  Curve number   Tc, s   Tp, s  Weights\n\
-        |\nSubarea  Cover  Soil    Area, ac  Curve number\n\
-        |\nSubarea      Kind  Length, ft  Slope, ft/ft  Velocity, ft/s  Time, s\n";
-    say::piece(heads, 0);
+    texts::head(texts::SUBAREAS);
     records(SUBAREAS, step, list);
-    say::piece(heads, 1);
+    texts::head(texts::PATCHES);
     records(PATCH, step, list);
-    say::piece(heads, 2);
+    texts::head(texts::SEGMENTS);
     records(SEGMENT, step, list);
 }
 
 fn pond_table(pond: &[u64]) {
-    say::bytes(b"\n       Stage, ft      Storage, cf  Discharge, cfs\n");
+    texts::head(texts::POND);
     lists::lines(POND_ROW, 0, pond);
 }
 
 // What was asked: the site with its lists.
-pub(crate) fn given(site: Site, rain: &[u64], subareas: &[u64], pond: &[u64]) {
-    heading(site, rain);
-    subarea_blocks(site.step, subareas);
+pub(crate) fn given(setup: Setup, rows: u64, rain: &[u64], subareas: &[u64], pond: &[u64]) {
+    heading(setup, rows, rain);
+    subarea_blocks(setup.step, subareas);
     pond_table(pond);
 }
 
@@ -136,39 +132,36 @@ fn stage(pond: &[u64], half: u64, outflow: u64, storage: u64) -> u64
 }
 
 fn row_line(number: u64, seconds: u64, inflow: u64, outflow: u64, storage: u64, stage: u64) {
-    say::right(number, 16);
-    say::clock(seconds, 6);
-    say::thousandths(inflow, 12);
-    say::thousandths(outflow, 10);
-    say::thousandths(storage, 13);
-    say::thousandths(stage, 7);
-    say::line_end();
+    texts::sheet(
+        texts::ROW,
+        &[number, seconds, inflow, outflow, storage, stage],
+    );
 }
 
-fn row_lines(site: Site, pond: &[u64], inflow: &[u64], outflow: &[u64], storage: &[u64])
-    requires { ⌜ PondOk (site .step / 2) (now pond) × AsMany (now inflow) (now outflow) (now storage) ⌝ }
+fn row_lines(setup: Setup, pond: &[u64], inflow: &[u64], outflow: &[u64], storage: &[u64])
+    requires { ⌜ PondOk (setup .step / 2) (now pond) × AsMany (now inflow) (now outflow) (now storage) ⌝ }
 {
-    let half = site.step / 2;
+    let half = setup.step / 2;
     let mut k = 0;
     while k < inflow.len() {
         let stage = stage(pond, half, outflow[k], storage[k]);
-        let number = std::num::wrapping_add_u64(site.first, k as u64);
-        let seconds = (k as u64 + 1) * site.step;
+        let number = std::num::wrapping_add_u64(setup.first, k as u64);
+        let seconds = (k as u64 + 1) * setup.step;
         row_line(number, seconds, inflow[k], outflow[k], storage[k], stage);
         k += 1;
     }
 }
 
 // A study that was not refused passes these tests, which are the engine's own.
-pub(crate) fn rows(site: Site, pond: &[u64], inflow: &[u64], outflow: &[u64], storage: &[u64])
+pub(crate) fn rows(setup: Setup, pond: &[u64], inflow: &[u64], outflow: &[u64], storage: &[u64])
     requires { ⌜ AsMany (now inflow) (now outflow) (now storage) ⌝ }
 {
-    let half = site.step / 2;
-    let n = pond.len() / 3;
-    if half < 30 {
+    let half = setup.step / 2;
+    let n = pond.len() / TRIPLE;
+    if half < LEAST_HALF {
         return;
     }
-    if half > 1800 {
+    if half > MOST_HALF {
         return;
     }
     if !pond::count_good(pond) {
@@ -180,10 +173,8 @@ pub(crate) fn rows(site: Site, pond: &[u64], inflow: &[u64], outflow: &[u64], st
     if pond::first_short(pond, half) != n {
         return;
     }
-    say::bytes(
-        b"\n             Row     h:mm:ss      Inflow, cf  Outflow, cfs      Storage, cf  Stage, ft\n",
-    );
-    row_lines(site, pond, inflow, outflow, storage);
+    texts::head(texts::ROWS);
+    row_lines(setup, pond, inflow, outflow, storage);
 }
 
 // The number of row k in the sheet.
@@ -191,44 +182,24 @@ fn row_number(first: u64, k: u64) -> u64 {
     std::num::wrapping_sub_u64(std::num::wrapping_add_u64(first, k), 1)
 }
 
-fn water(first: u64, f: Figures) {
-    let words = b"\nTotal inflow   | cf\n\
-        Total released | cf\n\
-        Last storage   | cf\n\
-        Peak outflow   | cfs in row |\n\
-        Greatest stage | ft\n";
-    say::with_thousandths(words, 0, f.inflow, 12);
-    say::with_thousandths(words, 1, f.released, 12);
-    say::with_thousandths(words, 2, f.storage, 12);
-    say::with_thousandths(words, 3, f.peak, 12);
-    say::with_number(words, 4, row_number(first, f.row));
-    say::with_thousandths(words, 5, f.stage, 12);
-    say::piece(words, 6);
-}
-
-fn areas(f: Figures) {
-    let words = b"Surfaces       | ac\n\
-        Districts      | ac\n\
-        Lots           | ac\n\
-        Rural          | ac\n";
-    say::with_hundredths(words, 0, f.surfaces, 13);
-    say::with_hundredths(words, 1, f.districts, 13);
-    say::with_hundredths(words, 2, f.lots, 13);
-    say::with_hundredths(words, 3, f.rural, 13);
-    say::piece(words, 4);
-}
-
-// Where the water went, to the last thousandth.
-fn balance(f: Figures) {
-    let words = b"\ninflow = released + stored: | = | + ";
-    say::with_thousandths(words, 0, f.inflow, 0);
-    say::with_thousandths(words, 1, f.released, 0);
-    say::with_thousandths(words, 2, f.storage, 0);
-    say::line_end();
-}
-
 pub(crate) fn figures(first: u64, f: Figures) {
-    water(first, f);
-    areas(f);
-    balance(f);
+    let row = row_number(first, f.row);
+    texts::sheet(
+        texts::FIGURES,
+        &[
+            f.inflow,
+            f.released,
+            f.storage,
+            f.peak,
+            row,
+            f.stage,
+            f.surfaces,
+            f.districts,
+            f.lots,
+            f.rural,
+            f.inflow,
+            f.released,
+            f.storage,
+        ],
+    );
 }

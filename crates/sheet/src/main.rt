@@ -2,20 +2,21 @@
 mod blocks;
 mod faults;
 mod lists;
-mod rules;
-mod say;
-mod site;
-mod text;
+mod texts;
 
-use site::Site;
-use study::Setup;
+use reading::room::POND_ROOM;
+use reading::room::RAIN_ROOM;
+use reading::room::ROWS_ROOM;
+use reading::room::SUBAREAS_ROOM;
 use study::StudyAnswer;
+use subarea::Setup;
 ghost use Prim.Native.Nat.{_≤_};
+ghost use Rattle.reading.specs.Bounds.{rowsRoom};
 ghost use Rattle.sheet.specs.Bounds.{AsMany};
 
 // Runs the study in lists of its rows, and prints its sheet or why it is refused.
 fn worked(
-    site: Site,
+    setup: Setup,
     rain: &[u64],
     subareas: &[u64],
     pond: &[u64],
@@ -25,52 +26,78 @@ fn worked(
 )
     requires { ⌜ AsMany (now inflow) (now outflow) (now storage) ⌝ }
 {
-    let setup = Setup {
-        step: site.step,
-        first: site.first,
-    };
-    match study::run(setup, rain, subareas, pond, inflow, outflow, storage) {
-        StudyAnswer::Refused(r) => rules::refused(r),
+    let answer = study::run(setup, rain, subareas, pond, inflow, outflow, storage);
+    answered(
+        answer,
+        setup,
+        rain,
+        subareas,
+        pond,
+        inflow,
+        outflow,
+        storage,
+    );
+}
+
+fn answered(
+    answer: StudyAnswer,
+    setup: Setup,
+    rain: &[u64],
+    subareas: &[u64],
+    pond: &[u64],
+    inflow: &[u64],
+    outflow: &[u64],
+    storage: &[u64],
+)
+    requires { ⌜ AsMany (now inflow) (now outflow) (now storage) ⌝ }
+{
+    match answer {
+        StudyAnswer::Refused(r) => faults::refused(r),
         StudyAnswer::Done(f) => {
-            blocks::given(site, rain, subareas, pond);
-            blocks::rows(site, pond, inflow, outflow, storage);
-            blocks::figures(site.first, f);
+            blocks::given(setup, inflow.len() as u64, rain, subareas, pond);
+            blocks::rows(setup, pond, inflow, outflow, storage);
+            blocks::figures(setup.first, f);
         }
     }
 }
 
-fn lent(site: Site, rain: &[u64], subareas: &[u64], pond: &[u64])
-    requires { ⌜ site .rows ≤ 2001 ⌝ }
+fn lent(setup: Setup, rows: usize, rain: &[u64], subareas: &[u64], pond: &[u64])
+    requires { ⌜ rows ≤ rowsRoom ⌝ }
 {
-    let mut inflow = [0u64; 2001];
-    let mut outflow = [0u64; 2001];
-    let mut storage = [0u64; 2001];
-    let m = site.rows;
+    let mut inflow = [0u64; ROWS_ROOM];
+    let mut outflow = [0u64; ROWS_ROOM];
+    let mut storage = [0u64; ROWS_ROOM];
     worked(
-        site,
+        setup,
         rain,
         subareas,
         pond,
-        &mut inflow[0..m],
-        &mut outflow[0..m],
-        &mut storage[0..m],
+        &mut inflow[0..rows],
+        &mut outflow[0..rows],
+        &mut storage[0..rows],
     );
 }
 
 fn laid(name: &[u8], s: &[u8]) {
-    let mut rain = [0u64; 2002];
-    let mut subareas = [0u64; 748];
-    let mut pond = [0u64; 195];
-    let site = site::read(s, &mut rain, &mut subareas, &mut pond);
+    let mut rain = [0u64; RAIN_ROOM];
+    let mut subareas = [0u64; SUBAREAS_ROOM];
+    let mut pond = [0u64; POND_ROOM];
+    let site = reading::read(s, &mut rain, &mut subareas, &mut pond);
     let end = site.end;
     if end.fault != 0 {
-        faults::reading(name, s, end);
+        faults::reading(name, end);
         return;
     }
     let a = site.rain;
     let b = site.subareas;
     let c = site.pond;
-    lent(site, &rain[0..a], &subareas[0..b], &pond[0..c]);
+    lent(
+        site.setup,
+        site.rows,
+        &rain[0..a],
+        &subareas[0..b],
+        &pond[0..c],
+    );
 }
 
 // One byte more is asked for, which tells a file that ends from one that cannot be read or is too long.
@@ -80,11 +107,11 @@ fn read(name: &[u8], fd: i32) {
     let mut more = [0u8; 1];
     let rest = libc::read(fd, &mut more);
     if rest < 0 {
-        faults::whole(name, 1);
+        faults::whole(name, texts::UNREAD);
         return;
     }
     if rest > 0 {
-        faults::whole(name, 2);
+        faults::whole(name, texts::TOO_LONG);
         return;
     }
     laid(name, &buf[..n]);
@@ -93,15 +120,11 @@ fn read(name: &[u8], fd: i32) {
 fn opened(name: &[u8]) {
     let fd = os::open_read(name);
     if fd < 0 {
-        faults::whole(name, 0);
+        faults::whole(name, texts::UNOPENED);
         return;
     }
     read(name, fd);
     libc::close(fd);
-}
-
-fn usage() {
-    say::bytes(b"usage: sheet [FILE]\n");
 }
 
 // An argument that is empty or too long for a path has no bytes here.
@@ -109,7 +132,7 @@ fn named() {
     let mut path = io::buffer();
     let n = os::arg(1, &mut path);
     if n == 0 {
-        usage();
+        texts::fault(texts::USAGE, 0);
         return;
     }
     opened(&path[..n]);
@@ -119,7 +142,7 @@ fn named() {
 fn main() {
     let n = os::arg_count();
     if n > 2 {
-        usage();
+        texts::fault(texts::USAGE, 0);
     } else if n == 2 {
         named();
     } else {

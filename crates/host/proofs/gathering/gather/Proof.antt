@@ -2,7 +2,7 @@
 -- All that the proof knows of `at_most`, `zeros` and `put` is that they meet their contracts.
 -- Assumes nothing.
 use mathlib.Core.Path.{_≡_, refl, sym, ap, _∙_, subst}
-use Prim.Native.Nat.{ℕ, suc, _+_, _-_, _*_, _≤_, _<_, _^_, zero-le}
+use Prim.Native.Nat.{ℕ, _+_, _-_, _*_, _≤_, _<_, _^_, zero-le}
 use native.Mathlib.Nat.{le-antisymm}
 use native.Mathlib.Numerals.{add-one, add-one-le, add-one-dec}
 use native.Mathlib.Omega.{arith}
@@ -48,6 +48,8 @@ use denote.Triple.Walked.{says, Stays, stay-none-slice, walkOf, goes-none-slice,
 use denote.Triple.Clauses.{ensured, lasts}
 use denote.Exit.{yes}
 use borrow.Author.Tests.{ltb-true, ltb-false}
+use Rattle.subarea.specs.Records.{width}
+use Rattle.study.specs.Records.{mostSubareas}
 use Rattle.host.specs.Gathered.{capped, blank, noRecord, putAt, fillTo, gathered}
 use Rattle.host.specs.declared.gathering.Flat.{Flat}
 use Rattle.host.specs.declared.records.Subarea.{Subarea}
@@ -80,8 +82,9 @@ word = tyInt w64
 abbrev slice : Ty
 slice = sliceTy (tyRef (named 0) imm (pointee (S.the-row .written)))
 
+-- the bytes of a record, 8 a number
 abbrev size : ℕ
-size = 352
+size = 8 * width
 
 abbrev Arg : Type 0
 Arg = RefT (List Subarea) × Unit {0}
@@ -172,7 +175,7 @@ module _ {M : Type 1} (𝓤 : URA M) (H : Heap 𝓤) (A : Atoms 𝓤) (W : Given
     abbrev to-put : Put 𝓤 H A mem run .Ghost
     to-put = ((tt, tt, tt, (fillTo i ys, (i, (s, tt))), (v ∷ [], (vint w64 i ∷ [], (u ∷ [], tt)))), tt)
 
-    goes-put : Is F.the-row (fillTo i ys) (v ∷ []) → i < 16 → Is S.the-row s (u ∷ []) → ent 𝓤 (emp 𝓤) (Put 𝓤 H A mem run .pre to-put)
+    goes-put : Is F.the-row (fillTo i ys) (v ∷ []) → i < mostSubareas → Is S.the-row s (u ∷ []) → ent 𝓤 (emp 𝓤) (Put 𝓤 H A mem run .pre to-put)
     goes-put isf small iss =
         qed W [] ∵ says ! small $ nothing ! $ owned ! S.the-row (Is S.the-row) (LL.makes S.the-type S′.the-plain 𝓤 H A) s _ iss $ fjoin ! $
         owned ! usize (Is usize) (uint-makes 𝓤 H A W w64) i _ (refl, omega arith) $ fjoin ! $
@@ -251,7 +254,7 @@ module _ {M : Type 1} (𝓤 : URA M) (H : Heap 𝓤) (A : Atoms 𝓤) (W : Given
         within : y .i < length ys
         within = omega (arith, less, capped-least (length ys) .0)
 
-        small : y .i < 16
+        small : y .i < mostSubareas
         small = omega (arith, less, capped-least (length ys) .1)
 
         place-fits : y .i * size < 2 ^ 64

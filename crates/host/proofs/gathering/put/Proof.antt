@@ -3,6 +3,8 @@ use mathlib.Core.Path.{ap}
 use mathlib.Core.List.{List}
 use Prim.Native.Nat.{ℕ, _*_}
 use borrow.Author.Needs.{needs}
+use Rattle.subarea.specs.Records.{width}
+use Rattle.study.specs.Records.{mostPatches, mostSegments}
 use Rattle.host.specs.Flattened.{recordOf, patchesTo, segmentsTo}
 use Rattle.host.specs.Gathered.{putAt}
 use Rattle.host.proofs.Stores.{record-stores, patches-length}
@@ -48,8 +50,8 @@ unfolding putAt recordOf
 returns c =
     let a = c .before .before .before .before .before .before .before .args in
     ap (λ (ns : List ℕ). record { numbers = ns })
-    (record-stores (a .flat .numbers) _ (c .put-segments .last .0) (patchesTo 8 (a .own .patches)) (segmentsTo 6 (a .own .segments)) (a .i * 44) (a .own .«patch_count») (a .own .«segment_count»)
-    (patches-length 8 (a .own .patches)) (c .before .before .put-patches .ensures) (c .put-segments .ensures))
+    (record-stores (a .flat .numbers) _ (c .put-segments .last .0) (patchesTo mostPatches (a .own .patches)) (segmentsTo mostSegments (a .own .segments)) (a .i * width) (a .own .«patch_count») (a .own .«segment_count»)
+    (patches-length mostPatches (a .own .patches)) (c .before .before .put-patches .ensures) (c .put-segments .ensures))
 
 pub put-spec : {M : Type 1} → statement M
 put-spec =

@@ -5,6 +5,7 @@ use native.Mathlib.Omega.{arith}
 use native.Mathlib.Nat.{le-antisymm}
 use lib.Seq.{sets}
 use borrow.Author.Needs.{needs}
+use Rattle.study.specs.Records.{mostPatches}
 use Rattle.host.specs.Flattened.{patchesTo}
 use Rattle.host.proofs.Stores.{patches-step}
 use Rattle.host.proofs.gathering.put_patches.Statement.{statement}
@@ -14,10 +15,10 @@ use Rattle.host.proofs.gathering.put_patches.Lts as lts
 use Rattle.host.proofs.gathering.put_three.Reads as put-three-reads
 
 abbrev Inv-loop : tie.InvT-loop
-Inv-loop to₀ at own k₀ to k = (k ≤ 8) × (to ≡ sets to₀ at (patchesTo k own))
+Inv-loop to₀ at own k₀ to k = (k ≤ mostPatches) × (to ≡ sets to₀ at (patchesTo k own))
 
 abbrev μ-loop : tie.MeasureT-loop
-μ-loop to₀ at own k₀ to k = 8 - k
+μ-loop to₀ at own k₀ to k = mostPatches - k
 
 loop-holds : tie.Need-loop-holds Inv-loop μ-loop
 unfolding patchesTo

@@ -5,6 +5,7 @@ use native.Mathlib.Omega.{arith}
 use native.Mathlib.Nat.{le-antisymm}
 use lib.Seq.{sets}
 use borrow.Author.Needs.{needs}
+use Rattle.study.specs.Records.{mostSegments}
 use Rattle.host.specs.Flattened.{segmentsTo}
 use Rattle.host.proofs.Stores.{segments-step}
 use Rattle.host.proofs.gathering.put_segments.Statement.{statement}
@@ -14,10 +15,10 @@ use Rattle.host.proofs.gathering.put_segments.Lts as lts
 use Rattle.host.proofs.gathering.put_three.Reads as put-three-reads
 
 abbrev Inv-loop : tie.InvT-loop
-Inv-loop to₀ at own k₀ to k = (k ≤ 6) × (to ≡ sets to₀ at (segmentsTo k own))
+Inv-loop to₀ at own k₀ to k = (k ≤ mostSegments) × (to ≡ sets to₀ at (segmentsTo k own))
 
 abbrev μ-loop : tie.MeasureT-loop
-μ-loop to₀ at own k₀ to k = 6 - k
+μ-loop to₀ at own k₀ to k = mostSegments - k
 
 loop-holds : tie.Need-loop-holds Inv-loop μ-loop
 unfolding segmentsTo

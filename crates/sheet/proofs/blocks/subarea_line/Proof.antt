@@ -4,10 +4,11 @@ use mathlib.Core.Bool.{true}
 use Prim.Native.Nat.{_≤_}
 use borrow.Author.Tests.{not-false}
 use native.Mathlib.Omega.{arith}
-use Rattle.travel.specs.TravelTime.{timeToPeak, TimeOk}
+use Rattle.travel.specs.TravelTime.{timeToPeak}
+use Rattle.travel.specs.Needs.{TimeOk}
 use Rattle.travel.proofs.Times.{concentration-ok}
-use Rattle.study.specs.Records.{segmentsPass}
-use Rattle.study.proofs.Subareas.{segments-fit}
+use Rattle.subarea.specs.Records.{segmentsPass}
+use Rattle.subarea.proofs.Subareas.{segments-fit}
 use borrow.Author.Needs.{needs}
 use Rattle.sheet.proofs.blocks.subarea_line.Statement.{statement}
 use Rattle.sheet.proofs.blocks.subarea_line.Tie as tie
@@ -36,12 +37,11 @@ time-to-peak-requires : tie.Need-time-to-peak-requires
 time-to-peak-requires c κs = timed c
 
 weights-requires : tie.Need-weights-requires
-weights-requires c κs = peaked (c .before .before .before .before .before)
+weights-requires c κs = peaked c
 
 pub subarea-line-spec : {M : Type 1} → statement M
 subarea-line-spec =
     tie.close
     (tie.spec (λ c κs. search needs) (λ c. search needs) (λ c κs. search needs) (λ c. search needs)
-    ground-requires time-requires time-to-peak-requires (λ c κs. search needs)
-    (λ c κs. search needs) (λ c κs. search needs) (λ c κs. search needs) (λ c κs. search needs)
-    weights-requires (λ c κs. search needs) (λ c κs. search needs) (λ c. search needs))
+    ground-requires time-requires time-to-peak-requires weights-requires
+    (λ c. search needs) (λ c κs. search needs) (λ c. search needs))

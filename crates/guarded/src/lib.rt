@@ -1,0 +1,242 @@
+// The engine's functions by a letter, behind their limits: NONE where the numbers are out of them.
+mod ponds;
+
+// Above every limit of the engine.
+pub const NONE: u64 = 1000000000000000;
+
+// Document 01's least step; the base rule's time to peak is the same at every step.
+const STEP: u64 = 60;
+
+// What a function gives: up to four figures, NONE for each that it does not have.
+pub struct Figures {
+    pub a: u64,
+    pub b: u64,
+    pub c: u64,
+    pub d: u64,
+}
+
+pub(crate) fn two(a: u64, b: u64) -> Figures {
+    Figures {
+        a,
+        b,
+        c: NONE,
+        d: NONE,
+    }
+}
+
+fn one(a: u64) -> Figures {
+    two(a, NONE)
+}
+
+// A number of a list, NONE where it has none there.
+fn at(n: &[u64], i: usize) -> u64 {
+    if i < n.len() { n[i] } else { NONE }
+}
+
+fn cover(cover: u64, soil: u64) -> u64 {
+    if cover < 1 {
+        return NONE;
+    }
+    if cover > 22 {
+        return NONE;
+    }
+    if soil < 1 {
+        return NONE;
+    }
+    if soil > 4 {
+        return NONE;
+    }
+    curve::cover_number(cover, soil)
+}
+
+fn covers(number: u64) -> Figures {
+    Figures {
+        a: cover(number, 1),
+        b: cover(number, 2),
+        c: cover(number, 3),
+        d: cover(number, 4),
+    }
+}
+
+fn composite(patches: &[u64]) -> u64 {
+    if curve::patches_good(patches) {
+        let ground = curve::composite(patches);
+        ground.curve
+    } else {
+        NONE
+    }
+}
+
+// The mean of curve numbers that no cover code has: their sum by area, and the area.
+fn mean(weighted: u64, area: u64) -> u64 {
+    if area < 1 {
+        return NONE;
+    }
+    if area > 1000000000000 {
+        return NONE;
+    }
+    if weighted > 1000000000000 {
+        return NONE;
+    }
+    curve::nearest(weighted, area)
+}
+
+fn depth(curve: u64, rain: u64) -> u64 {
+    if curve < 30 {
+        return NONE;
+    }
+    if curve > 98 {
+        return NONE;
+    }
+    if rain > 30000 {
+        return NONE;
+    }
+    runoff::depth(curve, rain)
+}
+
+// At four rains, which stand behind the curve number.
+fn depths(n: &[u64], curve: u64) -> Figures {
+    Figures {
+        a: depth(curve, at(n, 1)),
+        b: depth(curve, at(n, 2)),
+        c: depth(curve, at(n, 3)),
+        d: depth(curve, at(n, 4)),
+    }
+}
+
+fn segment(kind: u64, length: u64, rate: u64) -> u64 {
+    let one = [kind, length, rate];
+    if travel::segments_good(&one) {
+        travel::segment_time(kind, length, rate)
+    } else {
+        NONE
+    }
+}
+
+fn path(segments: &[u64]) -> Figures {
+    if travel::segments_good(segments) {
+        let tc = travel::concentration(segments);
+        let at = timing(STEP, tc);
+        two(tc, at.a)
+    } else {
+        one(NONE)
+    }
+}
+
+// Tp, and the first of refusals 9 to 11 that a Tc meets at a step, 0 for none.
+fn timing(step: u64, tc: u64) -> Figures {
+    if step > 3600 {
+        return one(NONE);
+    }
+    if tc < 360 {
+        return one(NONE);
+    }
+    if tc > 2400000 {
+        return one(NONE);
+    }
+    let peak = travel::time_to_peak(step, tc);
+    if !hydrograph::concentration_good(tc) {
+        return two(peak, 9);
+    }
+    if !hydrograph::peak_good(step, tc) {
+        return two(peak, 10);
+    }
+    if !hydrograph::weights_good(step, tc) {
+        return two(peak, 11);
+    }
+    two(peak, 0)
+}
+
+fn weight(peak: u64, step: u64, j: u64) -> u64 {
+    if step < 60 {
+        return NONE;
+    }
+    if step > 3600 {
+        return NONE;
+    }
+    if peak < step {
+        return NONE;
+    }
+    if peak > 400000 {
+        return NONE;
+    }
+    if 5 * peak > 512 * step {
+        return NONE;
+    }
+    if j > 512 {
+        return NONE;
+    }
+    if j * step > 5 * peak {
+        return NONE;
+    }
+    hydrograph::weight(peak, step, j)
+}
+
+fn volume(area: u64, depth: u64) -> u64 {
+    if area > 200000 {
+        return NONE;
+    }
+    if depth > 30000000 {
+        return NONE;
+    }
+    hydrograph::volume(area, depth)
+}
+
+// Of two areas as one; a row with one area has 0 for the other.
+fn volumes(n: &[u64]) -> Figures {
+    let a = volume(at(n, 0), at(n, 1));
+    let b = volume(at(n, 2), at(n, 3));
+    if a >= NONE {
+        return one(NONE);
+    }
+    if b >= NONE {
+        return one(NONE);
+    }
+    one(a + b)
+}
+
+// X of a row, the last of its figures, alone.
+fn last(f: Figures) -> Figures {
+    one(f.d)
+}
+
+// The first of refusals 1 to 5 that one row meets. Its number is above NONE: it is told in millions and what is over.
+fn over_limit(millions: u64, over: u64) -> u64 {
+    if millions > 10000000000 {
+        return NONE;
+    }
+    if over > 999999 {
+        return NONE;
+    }
+    let setup = subarea::Setup {
+        step: STEP,
+        first: millions * 1000000 + over,
+    };
+    let rain = [0u64; 2];
+    let subareas = [0u64; subarea::WIDTH];
+    let row = [0u64; 1];
+    let v = checks::run_checks(setup, &rain, &subareas, &row, &row, &row);
+    v.number
+}
+
+// The function that a letter names, on a list of numbers.
+pub fn worked(function: u8, n: &[u64]) -> Figures {
+    match function {
+        b'c' => covers(at(n, 0)),
+        b'p' => one(composite(n)),
+        b'm' => one(mean(at(n, 0), at(n, 1))),
+        b'd' => one(depth(at(n, 0), at(n, 1))),
+        b'a' => depths(n, at(n, 0)),
+        b's' => one(segment(at(n, 0), at(n, 1), at(n, 2))),
+        b'f' => path(n),
+        b't' => timing(at(n, 0), at(n, 1)),
+        b'w' => one(weight(at(n, 0), at(n, 1), at(n, 2))),
+        b'v' => volumes(n),
+        b'X' => one(ponds::sum(n)),
+        b'r' => ponds::routed(n),
+        b'x' => last(ponds::routed(n)),
+        b'l' => one(ponds::refusal(ponds::routed(n))),
+        b'o' => one(over_limit(at(n, 0), at(n, 1))),
+        _ => one(NONE),
+    }
+}

@@ -1,0 +1,18 @@
+-- `pictures::column_end` stays between its start and the end. The measure is what is left of the text.
+use Prim.Native.Nat.{_≤_, _-_}
+use lib.ListN.{length}
+use borrow.Author.Needs.{needs}
+use Rattle.pictures.proofs.column_end.Statement.{statement}
+use Rattle.pictures.proofs.column_end.Tie as tie
+
+abbrev Inv-loop : tie.InvT-loop
+Inv-loop s from i₀ i = (from ≤ i) × (i ≤ length s)
+
+abbrev μ-loop : tie.MeasureT-loop
+μ-loop s from i₀ i = length s - i
+
+pub column-end-spec : {M : Type 1} → statement M
+column-end-spec =
+    tie.close
+    (tie.spec Inv-loop μ-loop (λ c. search needs) (λ c. search needs) (λ c. search needs)
+    (λ c. search needs) (λ c. search needs) (λ c. search needs) (λ c. search needs))

@@ -1,0 +1,25 @@
+-- What the contracts cite: places in a text, and the numbers that lie in lists. Assumes nothing.
+use Prim.Native.Nat.{ℕ, _+_, _≤_}
+use mathlib.Core.List.{List}
+use lib.ListN.{length}
+use Rattle.laws.specs.Limits.{mostRows}
+
+-- a patch, a segment and a pond row are as many numbers each
+abbrev pub triple : ℕ
+triple = 3
+
+-- one row more than a study may have
+abbrev pub rowsRoom : ℕ
+rowsRoom = mostRows + 1
+
+-- e is a place of s, its end included, and not before a
+pub record Within (a e : ℕ) (s : List ℕ) : Type 0 where
+  pub low : a ≤ e
+  pub high : e ≤ length s
+
+-- what is laid of a file fits its lists, which are given as they were lent
+pub record SiteOk (rows rain subareas pond : ℕ) (rainList subareaList pondList : List ℕ) : Type 0 where
+  pub rows-fit : rows ≤ rowsRoom
+  pub rain-fits : rain ≤ length rainList
+  pub subareas-fit : subareas ≤ length subareaList
+  pub pond-fits : pond ≤ length pondList
