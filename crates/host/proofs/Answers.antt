@@ -5,6 +5,7 @@ use denote.Ref.{now}
 use lib.IntN.{ℤ}
 use lib.Ieee.{Float}
 use Rattle.laws.proofs.OneAnswer.{OneAnswerAnd, same}
+use Rattle.checks.specs.Site.{Rows, rowsNow}
 use Rattle.host.proofs.bt_study.Kinds as bt-study-kinds
 use Rattle.host.proofs.bt_study.Reads as bt-study-reads
 use Rattle.host.proofs.bt_edit.Kinds as bt-edit-kinds
@@ -12,17 +13,13 @@ use Rattle.host.proofs.bt_edit.Reads as bt-edit-reads
 use Rattle.host.proofs.bt_mark.Kinds as bt-mark-kinds
 use Rattle.host.proofs.bt_mark.Reads as bt-mark-reads
 
-pub bt-study-one : OneAnswerAnd bt-study-kinds.ps bt-study-kinds.r {L = List ℕ × (List ℕ × (List ℕ × List ℕ))}
-    (λ κs s. (now (s .1 .1 .1 .1 .1 .1 .1 .1 .0), (now (s .1 .1 .1 .1 .1 .0), (now (s .1 .1 .1 .1 .1 .1 .0), now (s .1 .1 .1 .1 .1 .1 .1 .0))))) bt-study-reads.Post
-bt-study-one κs a x y s t p q =
-    (same (p .0) (q .0), λ i. (same (p .1 .0) (q .1 .0) i, (same (p .1 .1 .0) (q .1 .1 .0) i, (same (p .1 .1 .1 .0) (q .1 .1 .1 .0) i, same (p .1 .1 .1 .1) (q .1 .1 .1 .1) i))))
+pub bt-study-one : OneAnswerAnd bt-study-kinds.ps bt-study-kinds.r {L = List ℕ × Rows}
+    (λ κs s. (now (s .1 .1 .1 .1 .1 .1 .1 .1 .0), rowsNow (s .1 .1 .1 .1 .1 .0) (s .1 .1 .1 .1 .1 .1 .0) (s .1 .1 .1 .1 .1 .1 .1 .0))) bt-study-reads.Post
+bt-study-one κs a x y s t p q = (same (p .0) (q .0), λ i. (same (p .1 .0) (q .1 .0) i, same (p .1 .1) (q .1 .1) i))
 
-pub bt-edit-one : OneAnswerAnd bt-edit-kinds.ps bt-edit-kinds.r {L = List ℕ × (List ℤ × (List ℕ × (List ℕ × List ℕ)))}
-    (λ κs s. (now (s .1 .1 .1 .1 .1 .1 .1 .1 .1 .1 .0), (now (s .1 .1 .1 .1 .1 .1 .1 .1 .1 .1 .1 .0), (now (s .1 .1 .1 .1 .1 .0), (now (s .1 .1 .1 .1 .1 .1 .0), now (s .1 .1 .1 .1 .1 .1 .1 .0)))))) bt-edit-reads.Post
-bt-edit-one κs a x y s t p q = (
-  same (p .0) (q .0),
-  λ i. (same (p .1 .0) (q .1 .0) i, (same (p .1 .1 .0) (q .1 .1 .0) i, (same (p .1 .1 .1 .0) (q .1 .1 .1 .0) i, (same (p .1 .1 .1 .1 .0) (q .1 .1 .1 .1 .0) i, same (p .1 .1 .1 .1 .1) (q .1 .1 .1 .1 .1) i)))),
-)
+pub bt-edit-one : OneAnswerAnd bt-edit-kinds.ps bt-edit-kinds.r {L = List ℕ × (List ℤ × Rows)}
+    (λ κs s. (now (s .1 .1 .1 .1 .1 .1 .1 .1 .1 .1 .0), (now (s .1 .1 .1 .1 .1 .1 .1 .1 .1 .1 .1 .0), rowsNow (s .1 .1 .1 .1 .1 .0) (s .1 .1 .1 .1 .1 .1 .0) (s .1 .1 .1 .1 .1 .1 .1 .0)))) bt-edit-reads.Post
+bt-edit-one κs a x y s t p q = (same (p .0) (q .0), λ i. (same (p .1 .0) (q .1 .0) i, (same (p .1 .1 .0) (q .1 .1 .0) i, same (p .1 .1 .1) (q .1 .1 .1) i)))
 
 pub bt-mark-one : OneAnswerAnd bt-mark-kinds.ps bt-mark-kinds.r {L = List ℕ × List Float} (λ κs s. (now (s .1 .1 .1 .1 .1 .1 .1 .0), now (s .1 .1 .1 .1 .1 .1 .1 .1 .0))) bt-mark-reads.Post
 bt-mark-one κs a x y s t p q = (same (p .0) (q .0), λ i. (same (p .1 .0) (q .1 .0) i, same (p .1 .1) (q .1 .1) i))

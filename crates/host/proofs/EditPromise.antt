@@ -2,88 +2,65 @@
 use mathlib.Core.Path.{_≡_, sym, ap, _∙_, subst}
 use mathlib.Core.Bool.{false}
 use mathlib.Core.Logic.{⊎-elim}
-use mathlib.Core.List.{List}
+use mathlib.Core.List.{List, [], _∷_, _++_}
 use Prim.Native.Nat.{ℕ}
 use lib.IntN.{ℤ}
 use lib.ListN.{length}
-use borrow.Author.Tests.{ne-eqb}
+use Rattle.laws.specs.Limits.{mostSubareas}
 use Rattle.laws.proofs.Num.{below-or-not}
-use Rattle.study.specs.Records.{mostSubareas}
-use Rattle.subarea.specs.declared.Setup.{Setup}
 use Rattle.refusals.specs.declared.Refusal.{Refusal}
-use Rattle.checks.specs.Order.{recordsGood}
-use Rattle.study.specs.Refusals.{runChecks}
-use Rattle.refusals.proofs.Orders.{or-first}
+use Rattle.refusals.specs.Refusals.{unless}
+use Rattle.refusals.proofs.Orders.{some-old}
+use Rattle.subarea.specs.declared.Setup.{Setup}
+use Rattle.checks.specs.Site.{Rows}
+use Rattle.checks.specs.Order.{recordsGood, listLines, pondLines}
+use Rattle.alter.specs.Altering.{altered, placeGood}
 use Rattle.edit.specs.declared.EditAnswer.{EditAnswer}
-use Rattle.edit.specs.Refusals.{listsRefusal, editRefusal}
-use Rattle.edit.specs.Edit.{editAnswer, inflowAfter, outflowAfter, storageAfter, editRefusalIn, editValuesIn}
+use Rattle.edit.specs.declared.EditAnswer.the-variants.{Refused, Done}
+use Rattle.edit.specs.Edit.{rowLines, editRefusal, newRows, editDone, editAnswer, editRows, editRefusalIn, editValuesIn}
 use Rattle.answers.specs.Setups.{setupOf}
 use Rattle.answers.specs.EditNumbers.{editNumbersOf, changesOf}
 use Rattle.host.specs.declared.records.Subarea.{Subarea}
 use Rattle.host.specs.Flattened.{flatOf}
 use Rattle.host.specs.Gathered.{gathered, handed}
 use Rattle.host.proofs.Handing.{handed-flat, handed-none}
-use Rattle.host.proofs.Refused.{none-refused, many-refused, run-alike, run-refuses}
+use Rattle.host.proofs.Refused.{none-refused, many-refused, on, alike, refuses}
+use Rattle.host.proofs.StudyPromise.{rowsOf}
 
--- lists that 5 refuses are refused alike
-module _ (g : Setup) (rain p vs os ss : List ℕ) (k : ℕ) (r : List ℕ) where
-  abbrev run : List ℕ → Refusal
-  run s = runChecks (g .step) (g .first) rain s (length vs) (length os) (length ss)
+-- lists that 5 refuses are refused alike, and nothing is written
+module _ (g : Setup) (rain p : List ℕ) (l : Rows) (k : ℕ) (r : List ℕ) where
+  abbrev rest : List ℕ → List Refusal
+  rest s = unless 15 (placeGood s k) ∷ (listLines g s ++ (listLines g (altered s k r) ++ (pondLines g p ++ rowLines (on g rain p l s) l k r)))
 
-  refusal-run : (s : List ℕ) → recordsGood s ≡ false → editRefusal g rain s p vs os ss k r ≡ run s
-  unfolding editRefusal listsRefusal
-  refusal-run s e =
-      let n = run-refuses (g .step) (g .first) rain (length vs) (length os) (length ss) s e in
-      rw (or-first (run s) _ n) (or-first (run s) _ n)
+  not-done : (s : List ℕ) → recordsGood s ≡ false → editRefusal (on g rain p l s) l k r .number ≡ 0 → ⊥
+  unfolding editRefusal
+  not-done s e = refuses g rain p l (rest s) s e
 
-  refuses : (s : List ℕ) → recordsGood s ≡ false → editRefusal g rain s p vs os ss k r .number ≡ 0 → ⊥
-  refuses s e q = run-refuses (g .step) (g .first) rain (length vs) (length os) (length ss) s e (sym (ap (λ (v : Refusal). v .number) (refusal-run s e)) ∙ q)
+  refusal-alike : (s u : List ℕ) → recordsGood s ≡ false → recordsGood u ≡ false → editRefusal (on g rain p l s) l k r ≡ editRefusal (on g rain p l u) l k r
+  unfolding editRefusal
+  refusal-alike s u e f = alike g rain p l rest s u e f
 
-  answer-alike : (s u : List ℕ) → recordsGood s ≡ false → recordsGood u ≡ false → editAnswer g rain s p vs os ss k r ≡ editAnswer g rain u p vs os ss k r
+  answer-is : (s : List ℕ) → recordsGood s ≡ false → Refused (editRefusal (on g rain p l s) l k r) ≡ editAnswer (on g rain p l s) l k r
   unfolding editAnswer
-  answer-alike s u e f =
-      rw (
-        ne-eqb (editRefusal g rain s p vs os ss k r .number) 0 (refuses s e),
-        ne-eqb (editRefusal g rain u p vs os ss k r .number) 0 (refuses u f),
-        refusal-run s e,
-        refusal-run u f,
-        run-alike (g .step) (g .first) rain (length vs) (length os) (length ss) s u (e ∙ sym f),
-      )
+  answer-is s e = some-old (editRefusal (on g rain p l s) l k r) (not-done s e) (Done (editDone (on g rain p l s) l k r)) (Refused (editRefusal (on g rain p l s) l k r))
 
-  inflow-kept : (s : List ℕ) → recordsGood s ≡ false → inflowAfter g rain s p vs os ss k r ≡ vs
-  unfolding inflowAfter
-  inflow-kept s e = rw (ne-eqb (editRefusal g rain s p vs os ss k r .number) 0 (refuses s e))
+  answer-alike : (s u : List ℕ) → recordsGood s ≡ false → recordsGood u ≡ false → editAnswer (on g rain p l s) l k r ≡ editAnswer (on g rain p l u) l k r
+  answer-alike s u e f = sym (answer-is s e) ∙ ap Refused (refusal-alike s u e f) ∙ answer-is u f
 
-  outflow-kept : (s : List ℕ) → recordsGood s ≡ false → outflowAfter g rain s p vs os ss k r ≡ os
-  unfolding outflowAfter
-  outflow-kept s e = rw (ne-eqb (editRefusal g rain s p vs os ss k r .number) 0 (refuses s e))
-
-  storage-kept : (s : List ℕ) → recordsGood s ≡ false → storageAfter g rain s p vs os ss k r ≡ ss
-  unfolding storageAfter
-  storage-kept s e = rw (ne-eqb (editRefusal g rain s p vs os ss k r .number) 0 (refuses s e))
+  rows-kept : (s : List ℕ) → recordsGood s ≡ false → l ≡ editRows (on g rain p l s) l k r
+  unfolding editRows
+  rows-kept s e = some-old (editRefusal (on g rain p l s) l k r) (not-done s e) (newRows (on g rain p l s) l k r) l
 
 -- what an edit of the flat list s says of its result and of each list that it is lent
 module _ (step first : ℕ) (rain pond inflow outflow storage : List ℕ) (place : ℕ) (fresh s : List ℕ) where
-  abbrev pub NumberIs : ℕ → Type 0
-  NumberIs r = r ≡ editRefusalIn (editAnswer (setupOf step first) rain s pond inflow outflow storage place fresh) .number
-
-  abbrev pub AnswerIs : List ℕ → Type 0
-  AnswerIs z = z ≡ editNumbersOf (editAnswer (setupOf step first) rain s pond inflow outflow storage place fresh)
-
-  abbrev pub ChangesIs : List ℤ → Type 0
-  ChangesIs z = z ≡ changesOf (editValuesIn (editAnswer (setupOf step first) rain s pond inflow outflow storage place fresh))
-
-  abbrev pub InflowIs : List ℕ → Type 0
-  InflowIs z = z ≡ inflowAfter (setupOf step first) rain s pond inflow outflow storage place fresh
-
-  abbrev pub OutflowIs : List ℕ → Type 0
-  OutflowIs z = z ≡ outflowAfter (setupOf step first) rain s pond inflow outflow storage place fresh
-
-  abbrev pub StorageIs : List ℕ → Type 0
-  StorageIs z = z ≡ storageAfter (setupOf step first) rain s pond inflow outflow storage place fresh
+  abbrev answer : EditAnswer
+  answer = editAnswer (on (setupOf step first) rain pond (rowsOf inflow outflow storage) s) (rowsOf inflow outflow storage) place fresh
 
   abbrev pub EditIs : ℕ → List ℕ → List ℕ → List ℕ → List ℕ → List ℤ → Type 0
-  EditIs r i o t z c = NumberIs r × (AnswerIs z × (ChangesIs c × (InflowIs i × (OutflowIs o × StorageIs t))))
+  EditIs r i o t z c =
+      (r ≡ editRefusalIn answer .number)
+      × ((z ≡ editNumbersOf answer)
+      × ((c ≡ changesOf (editValuesIn answer)) × (rowsOf i o t ≡ editRows (on (setupOf step first) rain pond (rowsOf inflow outflow storage) s) (rowsOf inflow outflow storage) place fresh)))
 
 module _ (step first : ℕ) (rain pond inflow outflow storage : List ℕ) (place : ℕ) (fresh : List ℕ) (r : ℕ) (i o t z : List ℕ) (c : List ℤ) where
   abbrev pub Says : List ℕ → Type 0
@@ -92,20 +69,12 @@ module _ (step first : ℕ) (rain pond inflow outflow storage : List ℕ) (place
   refused-alike : (s u : List ℕ) → recordsGood s ≡ false → recordsGood u ≡ false → Says s → Says u
   refused-alike s u e f k =
       let g = setupOf step first in
-      let same = answer-alike g rain pond inflow outflow storage place fresh s u e f in (
+      let l = rowsOf inflow outflow storage in
+      let same = answer-alike g rain pond l place fresh s u e f in (
         k .0 ∙ ap (λ (own : EditAnswer). editRefusalIn own .number) same,
         (
           k .1 .0 ∙ ap editNumbersOf same,
-          (
-            k .1 .1 .0 ∙ ap (λ (own : EditAnswer). changesOf (editValuesIn own)) same,
-            (
-              k .1 .1 .1 .0 ∙ inflow-kept g rain pond inflow outflow storage place fresh s e ∙ sym (inflow-kept g rain pond inflow outflow storage place fresh u f),
-              (
-                k .1 .1 .1 .1 .0 ∙ outflow-kept g rain pond inflow outflow storage place fresh s e ∙ sym (outflow-kept g rain pond inflow outflow storage place fresh u f),
-                k .1 .1 .1 .1 .1 ∙ storage-kept g rain pond inflow outflow storage place fresh s e ∙ sym (storage-kept g rain pond inflow outflow storage place fresh u f),
-              ),
-            ),
-          ),
+          (k .1 .1 .0 ∙ ap (λ (own : EditAnswer). changesOf (editValuesIn own)) same, k .1 .1 .1 ∙ sym (rows-kept g rain pond l place fresh s e) ∙ rows-kept g rain pond l place fresh u f),
         ),
       )
 

@@ -8,8 +8,9 @@ use mathlib.Core.List.{List, _∷_, _++_}
 use lib.ListN.{length, getD, take, drop}
 use lib.Seq.{take-nil, take-all, take-append-le, drop-drop, drop-at, getD-at}
 use Rattle.laws.proofs.Num.{below-or-not}
-use Rattle.study.specs.Records.{mostPatches, mostSegments, patchWidth, segmentCountAt, segmentsFrom, segmentWidth}
-use Rattle.subarea.specs.Records.{patchCount, patches, segmentCount, segments}
+use Rattle.curve.specs.CurveNumbers.{mostPatches, patchWidth}
+use Rattle.travel.specs.TravelTime.{mostSegments, segmentWidth}
+use Rattle.subarea.specs.Records.{segmentCountAt, segmentsFrom, patchCount, patches, segmentCount, segments}
 use Rattle.host.specs.declared.records.Patch.{Patch}
 use Rattle.host.specs.declared.records.Segment.{Segment}
 use Rattle.host.specs.declared.records.Subarea.{Subarea}

@@ -10,7 +10,9 @@ use lib.Dec.{ltb}
 use borrow.Author.Tests.{lt-ltb, le-ltb, ltb-true, ltb-false}
 use Rattle.laws.specs.Pick.{pick}
 use Rattle.subarea.specs.Records.{width}
-use Rattle.study.specs.Records.{mostPatches, mostSegments, mostSubareas}
+use Rattle.curve.specs.CurveNumbers.{mostPatches}
+use Rattle.travel.specs.TravelTime.{mostSegments}
+use Rattle.laws.specs.Limits.{mostSubareas}
 use Rattle.host.specs.declared.records.Subarea.{Subarea}
 use Rattle.host.specs.Flattened.{patchesTo, segmentsTo, recordOf, flatOf}
 use Rattle.host.specs.Gathered.{mostNumbers, capped, blank, putAt, noRecord, fillTo, gathered, used, handed}

@@ -7,7 +7,9 @@ use native.Mathlib.Omega.{arith}
 use mathlib.Core.List.{List, [], _∷_, _++_}
 use lib.ListN.{length, getD, set, length-append}
 use lib.Seq.{sets}
-use Rattle.study.specs.Records.{mostPatches, patchesFrom, patchWidth, segmentCountAt, segmentsFrom, segmentWidth}
+use Rattle.curve.specs.CurveNumbers.{mostPatches, patchWidth}
+use Rattle.subarea.specs.Records.{patchesFrom, segmentCountAt, segmentsFrom}
+use Rattle.travel.specs.TravelTime.{segmentWidth}
 use Rattle.host.specs.Flattened.{noPatch, noSegment, patchNumbers, segmentNumbers, patchesTo, segmentsTo}
 use Rattle.host.specs.declared.records.Patch.{Patch}
 use Rattle.host.specs.declared.records.Segment.{Segment}

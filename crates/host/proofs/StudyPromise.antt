@@ -2,43 +2,66 @@
 use mathlib.Core.Path.{_≡_, sym, ap, _∙_, subst}
 use mathlib.Core.Bool.{false}
 use mathlib.Core.Logic.{⊎-elim}
-use mathlib.Core.List.{List}
+use mathlib.Core.List.{List, [], _∷_, _++_}
 use Prim.Native.Nat.{ℕ}
 use lib.ListN.{length}
+use Rattle.laws.specs.Limits.{mostSubareas}
 use Rattle.laws.proofs.Num.{below-or-not}
-use Rattle.study.specs.Records.{mostSubareas}
+use Rattle.refusals.specs.declared.Refusal.{Refusal}
+use Rattle.refusals.proofs.Orders.{some-old}
+use Rattle.subarea.specs.declared.Setup.{Setup}
+use Rattle.subarea.specs.Records.{halfOf}
+use Rattle.checks.specs.Site.{Rows}
+use Rattle.checks.specs.Order.{recordsGood, listLines, pondLines}
+use Rattle.inflow.specs.Inflow.{inflowOf}
 use Rattle.study.specs.declared.StudyAnswer.{StudyAnswer}
-use Rattle.checks.specs.Order.{recordsGood}
-use Rattle.study.specs.Study.{answerOf, refusalOf, outflowRows, storageRows, studyRefusalIn}
-use Rattle.inflow.specs.Inflow.{inflowRows}
-use Rattle.refusals.specs.Refusals.{after}
+use Rattle.study.specs.declared.StudyAnswer.the-variants.{Refused, Done}
+use Rattle.study.specs.Study.{routed, overOf, studyRefusal, studyFigures, studyAnswer, studyRows, studyRefusalIn}
 use Rattle.answers.specs.Setups.{setupOf}
-use Rattle.answers.specs.StudyNumbers.{numbersOf}
+use Rattle.answers.specs.StudyNumbers.{studyNumbersOf}
 use Rattle.host.specs.declared.records.Subarea.{Subarea}
 use Rattle.host.specs.Flattened.{flatOf}
 use Rattle.host.specs.Gathered.{gathered, handed}
 use Rattle.host.proofs.Handing.{handed-flat, handed-none}
-use Rattle.host.proofs.Refused.{none-refused, many-refused, kept-old, answer-alike}
+use Rattle.host.proofs.Refused.{none-refused, many-refused, on, alike, refuses}
+
+-- lists that 5 refuses are refused alike, and nothing is written
+module _ (g : Setup) (rain p : List ℕ) (l : Rows) where
+  abbrev rest : List ℕ → List Refusal
+  rest s = listLines g s ++ (pondLines g p ++ (overOf (on g rain p l s) l ∷ []))
+
+  not-done : (s : List ℕ) → recordsGood s ≡ false → studyRefusal (on g rain p l s) l .number ≡ 0 → ⊥
+  unfolding studyRefusal
+  not-done s e = refuses g rain p l (rest s) s e
+
+  refusal-alike : (s u : List ℕ) → recordsGood s ≡ false → recordsGood u ≡ false → studyRefusal (on g rain p l s) l ≡ studyRefusal (on g rain p l u) l
+  unfolding studyRefusal
+  refusal-alike s u e f = alike g rain p l rest s u e f
+
+  answer-is : (s : List ℕ) → recordsGood s ≡ false → Refused (studyRefusal (on g rain p l s) l) ≡ studyAnswer (on g rain p l s) l
+  unfolding studyAnswer
+  answer-is s e = some-old (studyRefusal (on g rain p l s) l) (not-done s e) (Done (studyFigures (on g rain p l s) l)) (Refused (studyRefusal (on g rain p l s) l))
+
+  answer-alike : (s u : List ℕ) → recordsGood s ≡ false → recordsGood u ≡ false → studyAnswer (on g rain p l s) l ≡ studyAnswer (on g rain p l u) l
+  answer-alike s u e f = sym (answer-is s e) ∙ ap Refused (refusal-alike s u e f) ∙ answer-is u f
+
+  rows-kept : (s : List ℕ) → recordsGood s ≡ false → l ≡ studyRows (on g rain p l s) l
+  unfolding studyRows
+  rows-kept s e = some-old (studyRefusal (on g rain p l s) l) (not-done s e) (routed (halfOf g) p (inflowOf (on g rain p l s) l)) l
+
+-- the three row lists as one
+abbrev pub rowsOf : List ℕ → List ℕ → List ℕ → Rows
+rowsOf i o t = record { inflow = i; outflow = o; storage = t }
 
 -- what a study of the flat list s says of its result and of each list that it is lent
 module _ (step first : ℕ) (rain pond inflow outflow storage s : List ℕ) where
-  abbrev pub NumberIs : ℕ → Type 0
-  NumberIs r = r ≡ studyRefusalIn (answerOf (setupOf step first) rain s pond (length inflow) (length outflow) (length storage)) .number
-
-  abbrev pub AnswerIs : List ℕ → Type 0
-  AnswerIs z = z ≡ numbersOf (answerOf (setupOf step first) rain s pond (length inflow) (length outflow) (length storage))
-
-  abbrev pub InflowIs : List ℕ → Type 0
-  InflowIs z = z ≡ after (refusalOf (setupOf step first) rain s pond (length inflow) (length outflow) (length storage)) (inflowRows step rain s (length inflow)) inflow
-
-  abbrev pub OutflowIs : List ℕ → Type 0
-  OutflowIs z = z ≡ after (refusalOf (setupOf step first) rain s pond (length inflow) (length outflow) (length storage)) (outflowRows step rain s pond (length inflow)) outflow
-
-  abbrev pub StorageIs : List ℕ → Type 0
-  StorageIs z = z ≡ after (refusalOf (setupOf step first) rain s pond (length inflow) (length outflow) (length storage)) (storageRows step rain s pond (length inflow)) storage
+  abbrev answer : StudyAnswer
+  answer = studyAnswer (on (setupOf step first) rain pond (rowsOf inflow outflow storage) s) (rowsOf inflow outflow storage)
 
   abbrev pub StudyIs : ℕ → List ℕ → List ℕ → List ℕ → List ℕ → Type 0
-  StudyIs r i o t z = NumberIs r × (AnswerIs z × (InflowIs i × (OutflowIs o × StorageIs t)))
+  StudyIs r i o t z =
+      (r ≡ studyRefusalIn answer .number)
+      × ((z ≡ studyNumbersOf answer) × (rowsOf i o t ≡ studyRows (on (setupOf step first) rain pond (rowsOf inflow outflow storage) s) (rowsOf inflow outflow storage)))
 
 module _ (step first : ℕ) (rain pond inflow outflow storage : List ℕ) (r : ℕ) (i o t z : List ℕ) where
   abbrev pub Says : List ℕ → Type 0
@@ -46,14 +69,11 @@ module _ (step first : ℕ) (rain pond inflow outflow storage : List ℕ) (r : �
 
   refused-alike : (s u : List ℕ) → recordsGood s ≡ false → recordsGood u ≡ false → Says s → Says u
   refused-alike s u e f k =
-      let same = answer-alike (setupOf step first) rain pond (length inflow) (length outflow) (length storage) s u e f in
-      let old = kept-old (setupOf step first) rain pond (length inflow) (length outflow) (length storage) s e in
-      let still = kept-old (setupOf step first) rain pond (length inflow) (length outflow) (length storage) u f in (
+      let g = setupOf step first in
+      let l = rowsOf inflow outflow storage in
+      let same = answer-alike g rain pond l s u e f in (
         k .0 ∙ ap (λ (own : StudyAnswer). studyRefusalIn own .number) same,
-        (
-          k .1 .0 ∙ ap numbersOf same,
-          (k .1 .1 .0 ∙ old _ inflow ∙ sym (still _ inflow), (k .1 .1 .1 .0 ∙ old _ outflow ∙ sym (still _ outflow), k .1 .1 .1 .1 ∙ old _ storage ∙ sym (still _ storage))),
-        ),
+        (k .1 .0 ∙ ap studyNumbersOf same, k .1 .1 ∙ sym (rows-kept g rain pond l s e) ∙ rows-kept g rain pond l u f),
       )
 
   pub promised : (ss : List Subarea) → Says (handed (gathered ss) (length ss)) → Says (flatOf ss)

@@ -2,7 +2,11 @@
 use mathlib.Core.List.{List, [], _∷_, _++_}
 use Prim.Native.Nat.{ℕ, zero, suc}
 use lib.ListN.{getD}
-use Rattle.study.specs.Records.{mostPatches, mostSegments}
+use Rattle.curve.specs.CurveNumbers.{mostPatches}
+use Rattle.travel.specs.TravelTime.{mostSegments}
+use denote.Ref.{now}
+use Rattle.subarea.specs.declared.Setup.{Setup}
+use Rattle.checks.specs.Site.{Site, Lent}
 use Rattle.host.specs.declared.records.Patch.{Patch}
 use Rattle.host.specs.declared.records.Segment.{Segment}
 use Rattle.host.specs.declared.records.Subarea.{Subarea}
@@ -37,3 +41,7 @@ recordOf s = (s .«patch_count» ∷ patchesTo mostPatches (s .patches)) ++ (s .
 unfoldable pub flatOf : List Subarea → List ℕ
 flatOf [] = []
 flatOf (s ∷ ss) = recordOf s ++ flatOf ss
+
+-- a site whose subareas are such a list
+abbrev pub listSite : Setup → Lent → List ℕ → Lent → Site
+listSite g rain s p = record { setup = g; rain = now (rain .entry); subareas = s; pond = now (p .entry) }

@@ -6,7 +6,7 @@ use lib.Seq.{sets}
 use lib.Dec.{ltb}
 use Rattle.laws.specs.Pick.{pick}
 use Rattle.subarea.specs.Records.{width}
-use Rattle.study.specs.Records.{mostSubareas}
+use Rattle.laws.specs.Limits.{mostSubareas}
 use Rattle.host.specs.declared.records.Subarea.{Subarea}
 use Rattle.host.specs.declared.gathering.Flat.{Flat}
 use Rattle.host.specs.Flattened.{recordOf}

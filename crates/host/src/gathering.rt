@@ -2,16 +2,18 @@
 use crate::records::Patch;
 use crate::records::Segment;
 use crate::records::Subarea;
-use study::subarea;
+use laws::limits;
 ghost use mathlib.Core.Path.{_≡_};
 ghost use mathlib.Core.List.{[], _∷_};
 ghost use Prim.Native.Nat.{_+_, _*_, _≤_, _<_};
 ghost use lib.Seq.{sets};
-ghost use Rattle.study.specs.Records.{mostPatches, mostSegments, mostSubareas, patchWidth, segmentWidth};
+ghost use Rattle.curve.specs.CurveNumbers.{mostPatches, patchWidth};
+ghost use Rattle.travel.specs.TravelTime.{mostSegments, segmentWidth};
+ghost use Rattle.laws.specs.Limits.{mostSubareas};
 ghost use Rattle.host.specs.Flattened.{patchesTo, segmentsTo};
 ghost use Rattle.host.specs.Gathered.{mostNumbers, capped, blank, putAt, gathered};
 
-const MOST_NUMBERS: usize = subarea::MOST_SUBAREAS * subarea::WIDTH;
+const MOST_NUMBERS: usize = limits::MOST_SUBAREAS * subarea::WIDTH;
 
 // The numbers of as many records as a study takes.
 pub(crate) struct Flat {
@@ -22,10 +24,10 @@ pub(crate) struct Flat {
 fn at_most(n: usize) -> usize
     ensures { λ r. ⌜ r ≡ capped n ⌝ }
 {
-    if n < subarea::MOST_SUBAREAS {
+    if n < limits::MOST_SUBAREAS {
         n
     } else {
-        subarea::MOST_SUBAREAS
+        limits::MOST_SUBAREAS
     }
 }
 
@@ -48,32 +50,26 @@ fn put_three(to: &mut [u64; MOST_NUMBERS], at: usize, x: u64, y: u64, z: u64)
     to[c] = z;
 }
 
-fn put_patches(to: &mut [u64; MOST_NUMBERS], at: usize, own: [Patch; subarea::MOST_PATCHES])
+fn put_patches(to: &mut [u64; MOST_NUMBERS], at: usize, own: [Patch; curve::MOST_PATCHES])
     requires { ⌜ at + patchWidth * mostPatches ≤ mostNumbers ⌝ }
     ensures { λ _. ⌜ now (to .exit) ≡ sets (now (to .entry)) at (patchesTo mostPatches own) ⌝ }
 {
     let mut k: usize = 0;
-    while k < subarea::MOST_PATCHES {
+    while k < curve::MOST_PATCHES {
         let p = own[k];
-        put_three(to, at + subarea::PATCH_WIDTH * k, p.cover, p.soil, p.area);
+        put_three(to, at + curve::PATCH_WIDTH * k, p.cover, p.soil, p.area);
         k += 1;
     }
 }
 
-fn put_segments(to: &mut [u64; MOST_NUMBERS], at: usize, own: [Segment; subarea::MOST_SEGMENTS])
+fn put_segments(to: &mut [u64; MOST_NUMBERS], at: usize, own: [Segment; travel::MOST_SEGMENTS])
     requires { ⌜ at + segmentWidth * mostSegments ≤ mostNumbers ⌝ }
     ensures { λ _. ⌜ now (to .exit) ≡ sets (now (to .entry)) at (segmentsTo mostSegments own) ⌝ }
 {
     let mut k: usize = 0;
-    while k < subarea::MOST_SEGMENTS {
+    while k < travel::MOST_SEGMENTS {
         let g = own[k];
-        put_three(
-            to,
-            at + subarea::SEGMENT_WIDTH * k,
-            g.kind,
-            g.length,
-            g.rate,
-        );
+        put_three(to, at + travel::SEGMENT_WIDTH * k, g.kind, g.length, g.rate);
         k += 1;
     }
 }

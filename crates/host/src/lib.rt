@@ -2,19 +2,16 @@
 mod gathering;
 pub mod records;
 
-use study::Setup;
+use subarea::Setup;
 ghost use mathlib.Core.Path.{_≡_};
-ghost use lib.ListN.{length};
-ghost use Rattle.study.specs.Study.{answerOf, refusalOf, outflowRows, storageRows, studyRefusalIn};
-ghost use Rattle.inflow.specs.Inflow.{inflowRows};
-ghost use Rattle.refusals.specs.Refusals.{after};
+ghost use Rattle.checks.specs.Site.{site, found, left};
+ghost use Rattle.study.specs.Study.{studyAnswer, studyRows, studyRefusalIn};
+ghost use Rattle.edit.specs.Edit.{editAnswer, editRows, editRefusalIn, editValuesIn};
+ghost use Rattle.marks.specs.ChartMarks.{markAnswer, markRefusalIn, markValuesIn};
 ghost use Rattle.answers.specs.Setups.{setupOf};
-ghost use Rattle.edit.specs.Edit.{editAnswer, inflowAfter, outflowAfter, storageAfter, editRefusalIn, editValuesIn};
-ghost use Rattle.answers.specs.StudyNumbers.{numbersOf};
+ghost use Rattle.answers.specs.StudyNumbers.{studyNumbersOf};
 ghost use Rattle.answers.specs.EditNumbers.{editNumbersOf, changesOf};
 ghost use Rattle.answers.specs.MarkNumbers.{markNumbersOf};
-ghost use Rattle.marks.specs.ChartMarks as Marks;
-ghost use Rattle.marks.specs.ChartMarks.{valuesIn};
 
 // A study. The answer is written whole in either case; a refused study leaves the three row lists as they were.
 #[no_mangle]
@@ -29,11 +26,9 @@ pub extern "C" fn bt_study(
     storage: &mut [u64],
     answer: &mut [u64; 12],
 ) -> u64
-    ensures { λ r. ⌜ r ≡ studyRefusalIn (answerOf (setupOf step first) (now (rain .entry)) (now (subareas .entry)) (now (pond .entry)) (length (now (inflow .entry))) (length (now (outflow .entry))) (length (now (storage .entry)))) .number ⌝ }
-    ensures { λ _. ⌜ now (answer .exit) ≡ numbersOf (answerOf (setupOf step first) (now (rain .entry)) (now (subareas .entry)) (now (pond .entry)) (length (now (inflow .entry))) (length (now (outflow .entry))) (length (now (storage .entry)))) ⌝ }
-    ensures { λ _. ⌜ now (inflow .exit) ≡ after (refusalOf (setupOf step first) (now (rain .entry)) (now (subareas .entry)) (now (pond .entry)) (length (now (inflow .entry))) (length (now (outflow .entry))) (length (now (storage .entry)))) (inflowRows step (now (rain .entry)) (now (subareas .entry)) (length (now (inflow .entry)))) (now (inflow .entry)) ⌝ }
-    ensures { λ _. ⌜ now (outflow .exit) ≡ after (refusalOf (setupOf step first) (now (rain .entry)) (now (subareas .entry)) (now (pond .entry)) (length (now (inflow .entry))) (length (now (outflow .entry))) (length (now (storage .entry)))) (outflowRows step (now (rain .entry)) (now (subareas .entry)) (now (pond .entry)) (length (now (inflow .entry)))) (now (outflow .entry)) ⌝ }
-    ensures { λ _. ⌜ now (storage .exit) ≡ after (refusalOf (setupOf step first) (now (rain .entry)) (now (subareas .entry)) (now (pond .entry)) (length (now (inflow .entry))) (length (now (outflow .entry))) (length (now (storage .entry)))) (storageRows step (now (rain .entry)) (now (subareas .entry)) (now (pond .entry)) (length (now (inflow .entry)))) (now (storage .entry)) ⌝ }
+    ensures { λ r. ⌜ r ≡ studyRefusalIn (studyAnswer (site (setupOf step first) rain subareas pond) (found inflow outflow storage)) .number ⌝ }
+    ensures { λ _. ⌜ now (answer .exit) ≡ studyNumbersOf (studyAnswer (site (setupOf step first) rain subareas pond) (found inflow outflow storage)) ⌝ }
+    ensures { λ _. ⌜ left inflow outflow storage ≡ studyRows (site (setupOf step first) rain subareas pond) (found inflow outflow storage) ⌝ }
 {
     let setup = Setup { step, first };
     let own = study::run(setup, rain, subareas, pond, inflow, outflow, storage);
@@ -53,16 +48,14 @@ pub extern "C" fn bt_edit(
     outflow: &mut [u64],
     storage: &mut [u64],
     place: u64,
-    fresh: &[u64; study::subarea::WIDTH],
+    fresh: &[u64; subarea::WIDTH],
     answer: &mut [u64; 13],
     changes: &mut [i64; 2],
 ) -> u64
-    ensures { λ r. ⌜ r ≡ editRefusalIn (editAnswer (setupOf step first) (now (rain .entry)) (now (subareas .entry)) (now (pond .entry)) (now (inflow .entry)) (now (outflow .entry)) (now (storage .entry)) place (now (fresh .entry))) .number ⌝ }
-    ensures { λ _. ⌜ now (answer .exit) ≡ editNumbersOf (editAnswer (setupOf step first) (now (rain .entry)) (now (subareas .entry)) (now (pond .entry)) (now (inflow .entry)) (now (outflow .entry)) (now (storage .entry)) place (now (fresh .entry))) ⌝ }
-    ensures { λ _. ⌜ now (changes .exit) ≡ changesOf (editValuesIn (editAnswer (setupOf step first) (now (rain .entry)) (now (subareas .entry)) (now (pond .entry)) (now (inflow .entry)) (now (outflow .entry)) (now (storage .entry)) place (now (fresh .entry)))) ⌝ }
-    ensures { λ _. ⌜ now (inflow .exit) ≡ inflowAfter (setupOf step first) (now (rain .entry)) (now (subareas .entry)) (now (pond .entry)) (now (inflow .entry)) (now (outflow .entry)) (now (storage .entry)) place (now (fresh .entry)) ⌝ }
-    ensures { λ _. ⌜ now (outflow .exit) ≡ outflowAfter (setupOf step first) (now (rain .entry)) (now (subareas .entry)) (now (pond .entry)) (now (inflow .entry)) (now (outflow .entry)) (now (storage .entry)) place (now (fresh .entry)) ⌝ }
-    ensures { λ _. ⌜ now (storage .exit) ≡ storageAfter (setupOf step first) (now (rain .entry)) (now (subareas .entry)) (now (pond .entry)) (now (inflow .entry)) (now (outflow .entry)) (now (storage .entry)) place (now (fresh .entry)) ⌝ }
+    ensures { λ r. ⌜ r ≡ editRefusalIn (editAnswer (site (setupOf step first) rain subareas pond) (found inflow outflow storage) place (now (fresh .entry))) .number ⌝ }
+    ensures { λ _. ⌜ now (answer .exit) ≡ editNumbersOf (editAnswer (site (setupOf step first) rain subareas pond) (found inflow outflow storage) place (now (fresh .entry))) ⌝ }
+    ensures { λ _. ⌜ now (changes .exit) ≡ changesOf (editValuesIn (editAnswer (site (setupOf step first) rain subareas pond) (found inflow outflow storage) place (now (fresh .entry)))) ⌝ }
+    ensures { λ _. ⌜ left inflow outflow storage ≡ editRows (site (setupOf step first) rain subareas pond) (found inflow outflow storage) place (now (fresh .entry)) ⌝ }
 {
     let setup = Setup { step, first };
     let own = edit::run(
@@ -92,9 +85,9 @@ pub extern "C" fn bt_mark(
     answer: &mut [u64; 3],
     values: &mut [f64; 5],
 ) -> u64
-    ensures { λ r. ⌜ r ≡ Marks.refusalIn (Marks.answerOf (setupOf step first) (now (pond .entry)) (length (now (inflow .entry))) (now (outflow .entry)) (now (storage .entry)) row) .number ⌝ }
-    ensures { λ _. ⌜ now (answer .exit) ≡ markNumbersOf (Marks.answerOf (setupOf step first) (now (pond .entry)) (length (now (inflow .entry))) (now (outflow .entry)) (now (storage .entry)) row) ⌝ }
-    ensures { λ _. ⌜ now (values .exit) ≡ valuesIn (Marks.answerOf (setupOf step first) (now (pond .entry)) (length (now (inflow .entry))) (now (outflow .entry)) (now (storage .entry)) row) ⌝ }
+    ensures { λ r. ⌜ r ≡ markRefusalIn (markAnswer (setupOf step first) (now (pond .entry)) (found inflow outflow storage) row) .number ⌝ }
+    ensures { λ _. ⌜ now (answer .exit) ≡ markNumbersOf (markAnswer (setupOf step first) (now (pond .entry)) (found inflow outflow storage) row) ⌝ }
+    ensures { λ _. ⌜ now (values .exit) ≡ markValuesIn (markAnswer (setupOf step first) (now (pond .entry)) (found inflow outflow storage) row) ⌝ }
 {
     let setup = Setup { step, first };
     let own = marks::mark_row(setup, pond, inflow, outflow, storage, row);

@@ -2,18 +2,16 @@
 // structs is proved by a walk of the code: that of `gather` by hand, those of the entries here by tools/walks, and no more.
 use crate::gathering;
 use crate::gathering::Flat;
-use study::Setup;
-use study::subarea;
+use laws::limits;
+use subarea::Setup;
 ghost use mathlib.Core.Path.{_≡_};
-ghost use lib.ListN.{length};
-ghost use Rattle.study.specs.Study.{answerOf, refusalOf, outflowRows, storageRows, studyRefusalIn};
-ghost use Rattle.inflow.specs.Inflow.{inflowRows};
-ghost use Rattle.refusals.specs.Refusals.{after};
-ghost use Rattle.edit.specs.Edit.{editAnswer, inflowAfter, outflowAfter, storageAfter, editRefusalIn, editValuesIn};
+ghost use Rattle.checks.specs.Site.{found, left};
+ghost use Rattle.study.specs.Study.{studyAnswer, studyRows, studyRefusalIn};
+ghost use Rattle.edit.specs.Edit.{editAnswer, editRows, editRefusalIn, editValuesIn};
 ghost use Rattle.answers.specs.Setups.{setupOf};
-ghost use Rattle.answers.specs.StudyNumbers.{numbersOf};
+ghost use Rattle.answers.specs.StudyNumbers.{studyNumbersOf};
 ghost use Rattle.answers.specs.EditNumbers.{editNumbersOf, changesOf};
-ghost use Rattle.host.specs.Flattened.{flatOf};
+ghost use Rattle.host.specs.Flattened.{listSite, flatOf};
 ghost use Rattle.host.specs.Gathered.{used, handed};
 
 // A patch: area in hundredths of an acre.
@@ -36,16 +34,16 @@ pub struct Segment {
 #[repr(C)]
 pub struct Subarea {
     pub patch_count: u64,
-    pub patches: [Patch; subarea::MOST_PATCHES],
+    pub patches: [Patch; curve::MOST_PATCHES],
     pub segment_count: u64,
-    pub segments: [Segment; subarea::MOST_SEGMENTS],
+    pub segments: [Segment; travel::MOST_SEGMENTS],
 }
 
 // How many numbers to hand on for n records: none for too many, so that the engine refuses them in its own order.
 fn used_by(n: usize) -> usize
     ensures { λ r. ⌜ r ≡ used n ⌝ }
 {
-    if subarea::MOST_SUBAREAS < n {
+    if limits::MOST_SUBAREAS < n {
         0
     } else {
         subarea::WIDTH * n
@@ -65,11 +63,9 @@ fn study_of(
     storage: &mut [u64],
     answer: &mut [u64; 12],
 ) -> u64
-    ensures { λ r. ⌜ r ≡ studyRefusalIn (answerOf (setupOf step first) (now (rain .entry)) (handed flat n) (now (pond .entry)) (length (now (inflow .entry))) (length (now (outflow .entry))) (length (now (storage .entry)))) .number ⌝ }
-    ensures { λ _. ⌜ now (answer .exit) ≡ numbersOf (answerOf (setupOf step first) (now (rain .entry)) (handed flat n) (now (pond .entry)) (length (now (inflow .entry))) (length (now (outflow .entry))) (length (now (storage .entry)))) ⌝ }
-    ensures { λ _. ⌜ now (inflow .exit) ≡ after (refusalOf (setupOf step first) (now (rain .entry)) (handed flat n) (now (pond .entry)) (length (now (inflow .entry))) (length (now (outflow .entry))) (length (now (storage .entry)))) (inflowRows step (now (rain .entry)) (handed flat n) (length (now (inflow .entry)))) (now (inflow .entry)) ⌝ }
-    ensures { λ _. ⌜ now (outflow .exit) ≡ after (refusalOf (setupOf step first) (now (rain .entry)) (handed flat n) (now (pond .entry)) (length (now (inflow .entry))) (length (now (outflow .entry))) (length (now (storage .entry)))) (outflowRows step (now (rain .entry)) (handed flat n) (now (pond .entry)) (length (now (inflow .entry)))) (now (outflow .entry)) ⌝ }
-    ensures { λ _. ⌜ now (storage .exit) ≡ after (refusalOf (setupOf step first) (now (rain .entry)) (handed flat n) (now (pond .entry)) (length (now (inflow .entry))) (length (now (outflow .entry))) (length (now (storage .entry)))) (storageRows step (now (rain .entry)) (handed flat n) (now (pond .entry)) (length (now (inflow .entry)))) (now (storage .entry)) ⌝ }
+    ensures { λ r. ⌜ r ≡ studyRefusalIn (studyAnswer (listSite (setupOf step first) rain (handed flat n) pond) (found inflow outflow storage)) .number ⌝ }
+    ensures { λ _. ⌜ now (answer .exit) ≡ studyNumbersOf (studyAnswer (listSite (setupOf step first) rain (handed flat n) pond) (found inflow outflow storage)) ⌝ }
+    ensures { λ _. ⌜ left inflow outflow storage ≡ studyRows (listSite (setupOf step first) rain (handed flat n) pond) (found inflow outflow storage) ⌝ }
 {
     let numbers = flat.numbers;
     let e = used_by(n);
@@ -91,11 +87,9 @@ pub extern "C" fn bt_study_records(
     storage: &mut [u64],
     answer: &mut [u64; 12],
 ) -> u64
-    ensures { λ r. ⌜ r ≡ studyRefusalIn (answerOf (setupOf step first) (now (rain .entry)) (flatOf (now (list .entry))) (now (pond .entry)) (length (now (inflow .entry))) (length (now (outflow .entry))) (length (now (storage .entry)))) .number ⌝ }
-    ensures { λ _. ⌜ now (answer .exit) ≡ numbersOf (answerOf (setupOf step first) (now (rain .entry)) (flatOf (now (list .entry))) (now (pond .entry)) (length (now (inflow .entry))) (length (now (outflow .entry))) (length (now (storage .entry)))) ⌝ }
-    ensures { λ _. ⌜ now (inflow .exit) ≡ after (refusalOf (setupOf step first) (now (rain .entry)) (flatOf (now (list .entry))) (now (pond .entry)) (length (now (inflow .entry))) (length (now (outflow .entry))) (length (now (storage .entry)))) (inflowRows step (now (rain .entry)) (flatOf (now (list .entry))) (length (now (inflow .entry)))) (now (inflow .entry)) ⌝ }
-    ensures { λ _. ⌜ now (outflow .exit) ≡ after (refusalOf (setupOf step first) (now (rain .entry)) (flatOf (now (list .entry))) (now (pond .entry)) (length (now (inflow .entry))) (length (now (outflow .entry))) (length (now (storage .entry)))) (outflowRows step (now (rain .entry)) (flatOf (now (list .entry))) (now (pond .entry)) (length (now (inflow .entry)))) (now (outflow .entry)) ⌝ }
-    ensures { λ _. ⌜ now (storage .exit) ≡ after (refusalOf (setupOf step first) (now (rain .entry)) (flatOf (now (list .entry))) (now (pond .entry)) (length (now (inflow .entry))) (length (now (outflow .entry))) (length (now (storage .entry)))) (storageRows step (now (rain .entry)) (flatOf (now (list .entry))) (now (pond .entry)) (length (now (inflow .entry)))) (now (storage .entry)) ⌝ }
+    ensures { λ r. ⌜ r ≡ studyRefusalIn (studyAnswer (listSite (setupOf step first) rain (flatOf (now (list .entry))) pond) (found inflow outflow storage)) .number ⌝ }
+    ensures { λ _. ⌜ now (answer .exit) ≡ studyNumbersOf (studyAnswer (listSite (setupOf step first) rain (flatOf (now (list .entry))) pond) (found inflow outflow storage)) ⌝ }
+    ensures { λ _. ⌜ left inflow outflow storage ≡ studyRows (listSite (setupOf step first) rain (flatOf (now (list .entry))) pond) (found inflow outflow storage) ⌝ }
 {
     let flat = gathering::gather(list);
     study_of(
@@ -128,12 +122,10 @@ fn edit_of(
     answer: &mut [u64; 13],
     changes: &mut [i64; 2],
 ) -> u64
-    ensures { λ r. ⌜ r ≡ editRefusalIn (editAnswer (setupOf step first) (now (rain .entry)) (handed flat n) (now (pond .entry)) (now (inflow .entry)) (now (outflow .entry)) (now (storage .entry)) place (now (fresh .entry))) .number ⌝ }
-    ensures { λ _. ⌜ now (answer .exit) ≡ editNumbersOf (editAnswer (setupOf step first) (now (rain .entry)) (handed flat n) (now (pond .entry)) (now (inflow .entry)) (now (outflow .entry)) (now (storage .entry)) place (now (fresh .entry))) ⌝ }
-    ensures { λ _. ⌜ now (changes .exit) ≡ changesOf (editValuesIn (editAnswer (setupOf step first) (now (rain .entry)) (handed flat n) (now (pond .entry)) (now (inflow .entry)) (now (outflow .entry)) (now (storage .entry)) place (now (fresh .entry)))) ⌝ }
-    ensures { λ _. ⌜ now (inflow .exit) ≡ inflowAfter (setupOf step first) (now (rain .entry)) (handed flat n) (now (pond .entry)) (now (inflow .entry)) (now (outflow .entry)) (now (storage .entry)) place (now (fresh .entry)) ⌝ }
-    ensures { λ _. ⌜ now (outflow .exit) ≡ outflowAfter (setupOf step first) (now (rain .entry)) (handed flat n) (now (pond .entry)) (now (inflow .entry)) (now (outflow .entry)) (now (storage .entry)) place (now (fresh .entry)) ⌝ }
-    ensures { λ _. ⌜ now (storage .exit) ≡ storageAfter (setupOf step first) (now (rain .entry)) (handed flat n) (now (pond .entry)) (now (inflow .entry)) (now (outflow .entry)) (now (storage .entry)) place (now (fresh .entry)) ⌝ }
+    ensures { λ r. ⌜ r ≡ editRefusalIn (editAnswer (listSite (setupOf step first) rain (handed flat n) pond) (found inflow outflow storage) place (now (fresh .entry))) .number ⌝ }
+    ensures { λ _. ⌜ now (answer .exit) ≡ editNumbersOf (editAnswer (listSite (setupOf step first) rain (handed flat n) pond) (found inflow outflow storage) place (now (fresh .entry))) ⌝ }
+    ensures { λ _. ⌜ now (changes .exit) ≡ changesOf (editValuesIn (editAnswer (listSite (setupOf step first) rain (handed flat n) pond) (found inflow outflow storage) place (now (fresh .entry)))) ⌝ }
+    ensures { λ _. ⌜ left inflow outflow storage ≡ editRows (listSite (setupOf step first) rain (handed flat n) pond) (found inflow outflow storage) place (now (fresh .entry)) ⌝ }
 {
     let numbers = flat.numbers;
     let e = used_by(n);
@@ -168,12 +160,10 @@ pub extern "C" fn bt_edit_records(
     answer: &mut [u64; 13],
     changes: &mut [i64; 2],
 ) -> u64
-    ensures { λ r. ⌜ r ≡ editRefusalIn (editAnswer (setupOf step first) (now (rain .entry)) (flatOf (now (list .entry))) (now (pond .entry)) (now (inflow .entry)) (now (outflow .entry)) (now (storage .entry)) place (now (fresh .entry))) .number ⌝ }
-    ensures { λ _. ⌜ now (answer .exit) ≡ editNumbersOf (editAnswer (setupOf step first) (now (rain .entry)) (flatOf (now (list .entry))) (now (pond .entry)) (now (inflow .entry)) (now (outflow .entry)) (now (storage .entry)) place (now (fresh .entry))) ⌝ }
-    ensures { λ _. ⌜ now (changes .exit) ≡ changesOf (editValuesIn (editAnswer (setupOf step first) (now (rain .entry)) (flatOf (now (list .entry))) (now (pond .entry)) (now (inflow .entry)) (now (outflow .entry)) (now (storage .entry)) place (now (fresh .entry)))) ⌝ }
-    ensures { λ _. ⌜ now (inflow .exit) ≡ inflowAfter (setupOf step first) (now (rain .entry)) (flatOf (now (list .entry))) (now (pond .entry)) (now (inflow .entry)) (now (outflow .entry)) (now (storage .entry)) place (now (fresh .entry)) ⌝ }
-    ensures { λ _. ⌜ now (outflow .exit) ≡ outflowAfter (setupOf step first) (now (rain .entry)) (flatOf (now (list .entry))) (now (pond .entry)) (now (inflow .entry)) (now (outflow .entry)) (now (storage .entry)) place (now (fresh .entry)) ⌝ }
-    ensures { λ _. ⌜ now (storage .exit) ≡ storageAfter (setupOf step first) (now (rain .entry)) (flatOf (now (list .entry))) (now (pond .entry)) (now (inflow .entry)) (now (outflow .entry)) (now (storage .entry)) place (now (fresh .entry)) ⌝ }
+    ensures { λ r. ⌜ r ≡ editRefusalIn (editAnswer (listSite (setupOf step first) rain (flatOf (now (list .entry))) pond) (found inflow outflow storage) place (now (fresh .entry))) .number ⌝ }
+    ensures { λ _. ⌜ now (answer .exit) ≡ editNumbersOf (editAnswer (listSite (setupOf step first) rain (flatOf (now (list .entry))) pond) (found inflow outflow storage) place (now (fresh .entry))) ⌝ }
+    ensures { λ _. ⌜ now (changes .exit) ≡ changesOf (editValuesIn (editAnswer (listSite (setupOf step first) rain (flatOf (now (list .entry))) pond) (found inflow outflow storage) place (now (fresh .entry)))) ⌝ }
+    ensures { λ _. ⌜ left inflow outflow storage ≡ editRows (listSite (setupOf step first) rain (flatOf (now (list .entry))) pond) (found inflow outflow storage) place (now (fresh .entry)) ⌝ }
 {
     let flat = gathering::gather(list);
     edit_of(

@@ -11,7 +11,7 @@ returns : tie.Need-returns
 returns c =
     let r = c .before .before .before .before .before .before .before .before .before .run .ensures in
     let a = c .put-edit .ensures in
-    (a .0 ∙ ap (λ (z : EditAnswer). editRefusalIn z .number) (r .0), (a .1 .0 ∙ ap editNumbersOf (r .0), (a .1 .1 ∙ ap (λ (z : EditAnswer). changesOf (editValuesIn z)) (r .0), (r .1 .0, (r .1 .1 .0, r .1 .1 .1 .0)))))
+    (a .0 ∙ ap (λ (z : EditAnswer). editRefusalIn z .number) (r .0), (a .1 .0 ∙ ap editNumbersOf (r .0), (a .1 .1 ∙ ap (λ (z : EditAnswer). changesOf (editValuesIn z)) (r .0), r .1 .0)))
 
 pub bt-edit-spec : {M : Type 1} → statement M
 bt-edit-spec =

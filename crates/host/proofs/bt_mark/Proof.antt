@@ -2,7 +2,7 @@
 use mathlib.Core.Path.{ap, _∙_}
 use borrow.Author.Needs.{needs}
 use Rattle.marks.specs.declared.MarkAnswer.{MarkAnswer}
-use Rattle.marks.specs.ChartMarks.{refusalIn, valuesIn}
+use Rattle.marks.specs.ChartMarks.{markRefusalIn, markValuesIn}
 use Rattle.answers.specs.MarkNumbers.{markNumbersOf}
 use Rattle.host.proofs.bt_mark.Statement.{statement}
 use Rattle.host.proofs.bt_mark.Tie as tie
@@ -11,7 +11,7 @@ returns : tie.Need-returns
 returns c =
     let r = c .before .before .before .mark-row .ensures .0 in
     let a = c .put-mark .ensures in
-    (a .0 ∙ ap (λ (z : MarkAnswer). refusalIn z .number) r, (a .1 .0 ∙ ap markNumbersOf r, a .1 .1 ∙ ap valuesIn r))
+    (a .0 ∙ ap (λ (z : MarkAnswer). markRefusalIn z .number) r, (a .1 .0 ∙ ap markNumbersOf r, a .1 .1 ∙ ap markValuesIn r))
 
 pub bt-mark-spec : {M : Type 1} → statement M
 bt-mark-spec =

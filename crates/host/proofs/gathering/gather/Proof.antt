@@ -49,7 +49,7 @@ use denote.Triple.Clauses.{ensured, lasts}
 use denote.Exit.{yes}
 use borrow.Author.Tests.{ltb-true, ltb-false}
 use Rattle.subarea.specs.Records.{width}
-use Rattle.study.specs.Records.{mostSubareas}
+use Rattle.laws.specs.Limits.{mostSubareas}
 use Rattle.host.specs.Gathered.{capped, blank, noRecord, putAt, fillTo, gathered}
 use Rattle.host.specs.declared.gathering.Flat.{Flat}
 use Rattle.host.specs.declared.records.Subarea.{Subarea}

@@ -4,7 +4,8 @@ use mathlib.Core.List.{List}
 use Prim.Native.Nat.{ℕ, _*_}
 use borrow.Author.Needs.{needs}
 use Rattle.subarea.specs.Records.{width}
-use Rattle.study.specs.Records.{mostPatches, mostSegments}
+use Rattle.curve.specs.CurveNumbers.{mostPatches}
+use Rattle.travel.specs.TravelTime.{mostSegments}
 use Rattle.host.specs.Flattened.{recordOf, patchesTo, segmentsTo}
 use Rattle.host.specs.Gathered.{putAt}
 use Rattle.host.proofs.Stores.{record-stores, patches-length}

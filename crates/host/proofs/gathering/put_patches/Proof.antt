@@ -5,7 +5,7 @@ use native.Mathlib.Omega.{arith}
 use native.Mathlib.Nat.{le-antisymm}
 use lib.Seq.{sets}
 use borrow.Author.Needs.{needs}
-use Rattle.study.specs.Records.{mostPatches}
+use Rattle.curve.specs.CurveNumbers.{mostPatches}
 use Rattle.host.specs.Flattened.{patchesTo}
 use Rattle.host.proofs.Stores.{patches-step}
 use Rattle.host.proofs.gathering.put_patches.Statement.{statement}

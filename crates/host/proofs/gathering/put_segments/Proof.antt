@@ -5,7 +5,7 @@ use native.Mathlib.Omega.{arith}
 use native.Mathlib.Nat.{le-antisymm}
 use lib.Seq.{sets}
 use borrow.Author.Needs.{needs}
-use Rattle.study.specs.Records.{mostSegments}
+use Rattle.travel.specs.TravelTime.{mostSegments}
 use Rattle.host.specs.Flattened.{segmentsTo}
 use Rattle.host.proofs.Stores.{segments-step}
 use Rattle.host.proofs.gathering.put_segments.Statement.{statement}

@@ -90,8 +90,8 @@ module _ {M : Type 1} (𝓤 : URA M) (H : Heap 𝓤) (A : Atoms 𝓤) (mem : Mem
   kept : (r : ℕ) (zs : Lasts core.ended core-lfts core-args) → ent 𝓤 (core.clauses 𝓤 H A mem run core-lfts core-args .ensures tt r (atExit core.ended core-lfts core-args zs))
       (entry.clauses 𝓤 H A mem run κs a .ensures tt r (atExit entry.ended κs a (zs .1)))
   kept r zs =
-      via 𝓤 (fact 𝓤 (Said r zs (handed (gathered (now list)) (length (now list))))) (also 𝓤 _ _ (also 𝓤 _ _ (also 𝓤 _ _ (also 𝓤 _ _ (id⊢ 𝓤 _)))))
-      (via 𝓤 (fact 𝓤 (Said r zs (flatOf (now list)))) (fact-mono 𝓤 _ _ (promised (a .0) (a .1 .0) (now (a .1 .1 .0)) (now (a .1 .1 .1 .1 .0)) (now (a .1 .1 .1 .1 .1 .0)) (now (a .1 .1 .1 .1 .1 .1 .0)) (now (a .1 .1 .1 .1 .1 .1 .1 .0)) r (zs .1 .1 .1 .1 .1 .1 .0) (zs .1 .1 .1 .1 .1 .1 .1 .0) (zs .1 .1 .1 .1 .1 .1 .1 .1 .0) (zs .1 .1 .1 .1 .1 .1 .1 .1 .1 .0) (now list))) (apart 𝓤 _ _ (apart 𝓤 _ _ (apart 𝓤 _ _ (apart 𝓤 _ _ (id⊢ 𝓤 _))))))
+      via 𝓤 (fact 𝓤 (Said r zs (handed (gathered (now list)) (length (now list))))) (also 𝓤 _ _ (also 𝓤 _ _ (id⊢ 𝓤 _)))
+      (via 𝓤 (fact 𝓤 (Said r zs (flatOf (now list)))) (fact-mono 𝓤 _ _ (promised (a .0) (a .1 .0) (now (a .1 .1 .0)) (now (a .1 .1 .1 .1 .0)) (now (a .1 .1 .1 .1 .1 .0)) (now (a .1 .1 .1 .1 .1 .1 .0)) (now (a .1 .1 .1 .1 .1 .1 .1 .0)) r (zs .1 .1 .1 .1 .1 .1 .0) (zs .1 .1 .1 .1 .1 .1 .1 .0) (zs .1 .1 .1 .1 .1 .1 .1 .1 .0) (zs .1 .1 .1 .1 .1 .1 .1 .1 .1 .0) (now list))) (apart 𝓤 _ _ (apart 𝓤 _ _ (id⊢ 𝓤 _))))
 
   says : (r : ℕ) → ent 𝓤 (ensured 𝓤 H A core.ended (core.clauses 𝓤 H A mem run) core-lfts core-args tt r) (ensured 𝓤 H A entry.ended (entry.clauses 𝓤 H A mem run) κs a tt r)
   says r =

@@ -31,7 +31,7 @@ returns c =
     subst
     (λ (s : List ℕ). EditIs (args .step) (args .first) (now (args .rain)) (now (args .pond)) (now (args .inflow)) (now (args .outflow)) (now (args .storage)) (args .place) (now (args .fresh)) s (put .result) (own .last .1 .1 .1 .1 .0) (own .last .1 .1 .1 .1 .1 .0) (own .last .1 .1 .1 .1 .1 .1 .0) (put .last .1 .0) (put .last .1 .1 .0))
     (ap (λ (n : ℕ). take n (args .flat .numbers)) (c .before .before .before .before .before .before .before .before .before .before .before .before .before .before .used-by .ensures))
-    (put .ensures .0 ∙ ap (λ (z : EditAnswer). editRefusalIn z .number) (own .ensures .0), (put .ensures .1 .0 ∙ ap editNumbersOf (own .ensures .0), (put .ensures .1 .1 ∙ ap (λ (z : EditAnswer). changesOf (editValuesIn z)) (own .ensures .0), (own .ensures .1 .0, (own .ensures .1 .1 .0, own .ensures .1 .1 .1 .0)))))
+    (put .ensures .0 ∙ ap (λ (z : EditAnswer). editRefusalIn z .number) (own .ensures .0), (put .ensures .1 .0 ∙ ap editNumbersOf (own .ensures .0), (put .ensures .1 .1 ∙ ap (λ (z : EditAnswer). changesOf (editValuesIn z)) (own .ensures .0), own .ensures .1 .0)))
 
 pub edit-of-spec : {M : Type 1} → statement M
 edit-of-spec =

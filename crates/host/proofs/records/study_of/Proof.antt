@@ -9,7 +9,7 @@ use denote.Ref.{now}
 use borrow.Author.Needs.{needs}
 use Rattle.study.specs.declared.StudyAnswer.{StudyAnswer}
 use Rattle.study.specs.Study.{studyRefusalIn}
-use Rattle.answers.specs.StudyNumbers.{numbersOf}
+use Rattle.answers.specs.StudyNumbers.{studyNumbersOf}
 use Rattle.host.specs.Gathered.{handed}
 use Rattle.host.proofs.Handing.{used-most}
 use Rattle.host.proofs.StudyPromise.{StudyIs}
@@ -36,7 +36,7 @@ returns c =
     subst
     (λ (s : List ℕ). StudyIs (args .step) (args .first) (now (args .rain)) (now (args .pond)) (now (args .inflow)) (now (args .outflow)) (now (args .storage)) s (put .result) (own .last .1 .1 .1 .1 .0) (own .last .1 .1 .1 .1 .1 .0) (own .last .1 .1 .1 .1 .1 .1 .0) (put .last .1 .0))
     (ap (λ (n : ℕ). take n (args .flat .numbers)) (c .before .before .before .before .before .before .before .before .before .before .before .before .before .used-by .ensures))
-    (put .ensures .0 ∙ ap (λ (z : StudyAnswer). studyRefusalIn z .number) (own .ensures .0), (put .ensures .1 ∙ ap numbersOf (own .ensures .0), own .ensures .1))
+    (put .ensures .0 ∙ ap (λ (z : StudyAnswer). studyRefusalIn z .number) (own .ensures .0), (put .ensures .1 ∙ ap studyNumbersOf (own .ensures .0), own .ensures .1 .0))
 
 pub study-of-spec : {M : Type 1} → statement M
 study-of-spec =

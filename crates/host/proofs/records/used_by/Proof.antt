@@ -6,7 +6,7 @@ use borrow.Author.Needs.{needs}
 use borrow.Author.Tests.{lt-ltb, le-ltb}
 use Rattle.laws.specs.Pick.{pick}
 use Rattle.subarea.specs.Records.{width}
-use Rattle.study.specs.Records.{mostSubareas}
+use Rattle.laws.specs.Limits.{mostSubareas}
 use Rattle.host.specs.Gathered.{used}
 use Rattle.host.proofs.records.used_by.Statement.{statement}
 use Rattle.host.proofs.records.used_by.Tie as tie
