@@ -2,11 +2,11 @@
 use mathlib.Core.Path.{_≡_}
 use mathlib.Core.Bool.{true, _&&_}
 use mathlib.Core.List.{List}
-use Prim.Native.Nat.{ℕ, _<_}
+use Prim.Native.Nat.{ℕ}
 use Rattle.laws.specs.Within.{within}
 use Rattle.laws.proofs.Tests.{both-left, both-right, both-true, kept, keeps}
 use Rattle.laws.proofs.Flats.{flat-ok, flat-good}
-use Rattle.curve.specs.CurveNumbers.{patchesIn, cover, soil, area, patchWithin, patchGood, patchesGood}
+use Rattle.curve.specs.CurveNumbers.{cover, soil, area, patchWithin, patchGood, patchesGood}
 use Rattle.curve.specs.Needs.{PatchOk, PatchesOk}
 
 -- a patch that passes is within its limits

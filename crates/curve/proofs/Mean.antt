@@ -1,10 +1,9 @@
 -- The composite curve number lies between the patches' numbers, the class areas sum to the area, and how large the sums can be. Assumes nothing.
-use mathlib.Core.Path.{_≡_, refl, sym, _∙_, ap}
-use mathlib.Core.Bool.{Bool, true, false}
+use mathlib.Core.Path.{_≡_, sym, _∙_, ap}
 use mathlib.Core.Logic.{⊎-elim}
 use mathlib.Core.List.{List}
-use Prim.Native.Nat.{ℕ, zero, suc, _+_, _*_, _/_, _≤_, _<_}
-use native.Mathlib.Nat.{mul-le-mul, mul-le-mul-left, mul-le-mul-right, le-div-iff-mul-le, div-lt-iff-lt-mul}
+use Prim.Native.Nat.{ℕ, _+_, _*_, _≤_, _<_}
+use native.Mathlib.Nat.{mul-le-mul, mul-le-mul-right, le-div-iff-mul-le, div-lt-iff-lt-mul}
 use native.Mathlib.Omega.{arith}
 use lib.Dec.{eqb}
 use mir.Val.{Fits}
@@ -15,7 +14,7 @@ use Rattle.laws.proofs.Tests.{by-test}
 use Rattle.laws.proofs.Num.{below-or-not}
 use Rattle.laws.proofs.Sums.{sum-le, sum-same, sum-add, sum-times, sum-more, sum-most, sum-least}
 use Rattle.curve.specs.CurveNumbers.{classOf, patchesIn, cover, soil, area, number, totalArea, weightedAt, weighted, nearest, composite, areaIn, classArea, classesTo}
-use Rattle.curve.specs.Needs.{PatchesOk, CurveOk, MeanOk}
+use Rattle.curve.specs.Needs.{PatchesOk, CurveOk}
 use Rattle.curve.specs.declared.Classes.{Classes}
 use Rattle.curve.proofs.Class.{is-surface, is-district, is-lot, is-rural}
 use Rattle.curve.proofs.Table.{cover-ok}

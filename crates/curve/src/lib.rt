@@ -2,11 +2,11 @@
 // A list of patches is flat, three numbers a patch: cover code, soil group, area in hundredths of an acre.
 use laws::limits;
 ghost use mathlib.Core.Path.{_≡_};
-ghost use Prim.Native.Nat.{_+_, _*_, _≤_, _<_};
+ghost use Prim.Native.Nat.{_+_, _*_, _<_};
 ghost use Rattle.laws.specs.Pick.{pick};
 ghost use Rattle.laws.specs.Scan.{scan};
 ghost use lib.Dec.{eqb};
-ghost use Rattle.curve.specs.CurveNumbers.{coverNumber, classOf, patchesIn, cover, soil, area, number, nearest, groundOf, classesTo, classesOf, patchWithin, patchGood, patchesGood};
+ghost use Rattle.curve.specs.CurveNumbers.{coverNumber, classOf, patchesIn, cover, soil, area, number, nearest, groundOf, classesTo, classesOf, patchGood, patchesGood};
 ghost use Rattle.curve.specs.Needs.{CoverOk, PatchesOk, MeanOk};
 
 // The numbers of a patch in a list, and the patches that a subarea can have.

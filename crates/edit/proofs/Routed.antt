@@ -5,7 +5,7 @@ use mathlib.Core.Logic.{⊎-elim}
 use mathlib.Core.List.{List, [], _∷_, _++_}
 use Prim.Native.Nat.{ℕ, _+_, _≤_, _<_}
 use native.Mathlib.Omega.{arith}
-use borrow.Author.Tests.{eqb-true, eq-eqb, ne-eqb, lt-ltb, le-ltb}
+use borrow.Author.Tests.{eqb-true, ne-eqb, lt-ltb, le-ltb}
 use lib.Dec.{eqb}
 use lib.ListN.{length, take, drop, take-append-drop, length-drop}
 use lib.Seq.{length-take-le}
@@ -22,12 +22,12 @@ use Rattle.refusals.specs.declared.Refusal.{Refusal}
 use Rattle.study.specs.declared.StudyAnswer.the-variants as Study
 use Rattle.checks.specs.Site.{Site, Rows}
 use Rattle.subarea.specs.Records.{width, recordsIn, halfOf}
-use Rattle.refusals.specs.Refusals.{refuse, none, orElse, unless, firstAfter, firstRefusal, after, AllPass}
+use Rattle.refusals.specs.Refusals.{refuse, none, unless, firstRefusal, after, AllPass}
 use Rattle.checks.specs.Order.{recordsGood, runLines, listLines, pondLines, checkLines}
 use Rattle.study.specs.Study.{overCheck, overOf, studyRefusal, studyAnswer, studyRows, classesAll, figuresWith, figuresAll, routed}
 use Rattle.inflow.specs.Inflow.{inflowAt, inflowOf}
 use Rattle.checks.specs.Needs.{SiteOk}
-use Rattle.refusals.proofs.Orders.{both-pass, first-append, goes-on, none-new}
+use Rattle.refusals.proofs.Orders.{both-pass, none-new}
 use Rattle.inflow.proofs.Inflows.{rows-length}
 use Rattle.checks.proofs.Ready.{site-ok}
 use Rattle.study.proofs.Order.{study-passes}

@@ -6,7 +6,7 @@ use crate::text;
 use crate::text::field;
 use crate::verdict;
 use crate::verdict::Verdict;
-use guarded::Figures;
+use guarded::Four;
 use guarded::NONE;
 use laws::both;
 
@@ -20,7 +20,7 @@ fn is(cells: &[u8], k: u64, figure: u64) -> bool {
     }
 }
 
-fn same(cells: &[u8], f: Figures) -> bool {
+fn same(cells: &[u8], f: Four) -> bool {
     both(
         both(is(cells, 0, f.a), is(cells, 1, f.b)),
         both(is(cells, 2, f.c), is(cells, 3, f.d)),
@@ -30,7 +30,7 @@ fn same(cells: &[u8], f: Figures) -> bool {
 // The first figure, times one number and divided by the other, is in the printed unit. With no
 // divisor it is the seconds along a length, and with neither the figures themselves are printed.
 // 0 times is for a printed abstraction: the row's second rain, in its unit, and nothing runs off.
-fn agrees(line: &[u8], f: Figures) -> bool {
+fn agrees(line: &[u8], f: Four) -> bool {
     let figure = field(line, 2);
     let times = text::number(line, 5);
     let per = text::number(line, 6);
@@ -47,7 +47,7 @@ fn agrees(line: &[u8], f: Figures) -> bool {
     verdict::rounds(verdict::product(f.a, times), per, figure)
 }
 
-fn printed(line: &[u8], right: bool, f: Figures) -> Verdict {
+fn printed(line: &[u8], right: bool, f: Four) -> Verdict {
     let figure = field(line, 2);
     if figure.len() == 0 {
         return verdict::unprinted(right, field(line, 4));
@@ -58,7 +58,7 @@ fn printed(line: &[u8], right: bool, f: Figures) -> Verdict {
     verdict::ended(right, agrees(line, f), field(line, 4))
 }
 
-fn judged(line: &[u8], f: Figures) -> Verdict {
+fn judged(line: &[u8], f: Four) -> Verdict {
     if f.a >= NONE {
         return verdict::unread();
     }
@@ -80,5 +80,5 @@ pub(crate) fn row(word: &[u8], line: &[u8]) -> Verdict {
     }
     let mut n = [0u64; 96];
     let k = text::list(field(line, 8), &mut n);
-    judged(line, guarded::worked(function, &n[..k]))
+    judged(line, guarded::given_by(function, &n[..k]))
 }

@@ -8,15 +8,15 @@ pub const NONE: u64 = 1000000000000000;
 const STEP: u64 = 60;
 
 // What a function gives: up to four figures, NONE for each that it does not have.
-pub struct Figures {
+pub struct Four {
     pub a: u64,
     pub b: u64,
     pub c: u64,
     pub d: u64,
 }
 
-pub(crate) fn two(a: u64, b: u64) -> Figures {
-    Figures {
+pub(crate) fn two(a: u64, b: u64) -> Four {
+    Four {
         a,
         b,
         c: NONE,
@@ -24,7 +24,7 @@ pub(crate) fn two(a: u64, b: u64) -> Figures {
     }
 }
 
-fn one(a: u64) -> Figures {
+fn one(a: u64) -> Four {
     two(a, NONE)
 }
 
@@ -49,8 +49,8 @@ fn cover(cover: u64, soil: u64) -> u64 {
     curve::cover_number(cover, soil)
 }
 
-fn covers(number: u64) -> Figures {
-    Figures {
+fn covers(number: u64) -> Four {
+    Four {
         a: cover(number, 1),
         b: cover(number, 2),
         c: cover(number, 3),
@@ -95,8 +95,8 @@ fn depth(curve: u64, rain: u64) -> u64 {
 }
 
 // At four rains, which stand behind the curve number.
-fn depths(n: &[u64], curve: u64) -> Figures {
-    Figures {
+fn depths(n: &[u64], curve: u64) -> Four {
+    Four {
         a: depth(curve, at(n, 1)),
         b: depth(curve, at(n, 2)),
         c: depth(curve, at(n, 3)),
@@ -113,7 +113,7 @@ fn segment(kind: u64, length: u64, rate: u64) -> u64 {
     }
 }
 
-fn path(segments: &[u64]) -> Figures {
+fn path(segments: &[u64]) -> Four {
     if travel::segments_good(segments) {
         let tc = travel::concentration(segments);
         let at = timing(STEP, tc);
@@ -124,7 +124,7 @@ fn path(segments: &[u64]) -> Figures {
 }
 
 // Tp, and the first of refusals 9 to 11 that a Tc meets at a step, 0 for none.
-fn timing(step: u64, tc: u64) -> Figures {
+fn timing(step: u64, tc: u64) -> Four {
     if step > 3600 {
         return one(NONE);
     }
@@ -183,7 +183,7 @@ fn volume(area: u64, depth: u64) -> u64 {
 }
 
 // Of two areas as one; a row with one area has 0 for the other.
-fn volumes(n: &[u64]) -> Figures {
+fn volumes(n: &[u64]) -> Four {
     let a = volume(at(n, 0), at(n, 1));
     let b = volume(at(n, 2), at(n, 3));
     if a >= NONE {
@@ -196,7 +196,7 @@ fn volumes(n: &[u64]) -> Figures {
 }
 
 // X of a row, the last of its figures, alone.
-fn last(f: Figures) -> Figures {
+fn last(f: Four) -> Four {
     one(f.d)
 }
 
@@ -220,7 +220,7 @@ fn over_limit(millions: u64, over: u64) -> u64 {
 }
 
 // The function that a letter names, on a list of numbers.
-pub fn worked(function: u8, n: &[u64]) -> Figures {
+pub fn given_by(function: u8, n: &[u64]) -> Four {
     match function {
         b'c' => covers(at(n, 0)),
         b'p' => one(composite(n)),

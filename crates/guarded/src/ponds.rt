@@ -2,7 +2,7 @@
 ghost use mathlib.Core.Path.{_≡_};
 ghost use Prim.Native.Nat.{_≤_};
 ghost use Rattle.pond.specs.Needs.{PondOk, StateOk};
-use crate::Figures;
+use crate::Four;
 use crate::NONE;
 use crate::two;
 use pond::State;
@@ -58,7 +58,7 @@ fn step(pond: &[u64], half: u64, state: State, inflow: u64) -> Dry
 }
 
 // What the last row of inflow volumes leaves: outflow, storage, stage and X.
-fn last_row(pond: &[u64], half: u64, inflow: &[u64]) -> Figures
+fn last_row(pond: &[u64], half: u64, inflow: &[u64]) -> Four
     requires { ⌜ PondOk half (now pond) ⌝ }
 {
     let mut state = State {
@@ -83,7 +83,7 @@ fn last_row(pond: &[u64], half: u64, inflow: &[u64]) -> Figures
         state = dry.last;
         i += 1;
     }
-    Figures {
+    Four {
         a: state.outflow,
         b: state.storage,
         c: stage,
@@ -93,7 +93,7 @@ fn last_row(pond: &[u64], half: u64, inflow: &[u64]) -> Figures
 
 // The numbers: h, how many rows, their inflow volumes, the pond. A refusal is the second figure, and
 // there is no first.
-pub(crate) fn routed(n: &[u64]) -> Figures {
+pub(crate) fn routed(n: &[u64]) -> Four {
     if n.len() < 2 {
         return two(NONE, NONE);
     }
@@ -115,6 +115,6 @@ pub(crate) fn routed(n: &[u64]) -> Figures {
 }
 
 // The refusal alone, 0 for none.
-pub(crate) fn refusal(f: Figures) -> u64 {
+pub(crate) fn refusal(f: Four) -> u64 {
     if f.a < NONE { 0 } else { f.b }
 }

@@ -1,17 +1,17 @@
 -- The lines of the shape: its table's rules, each by one computed test, and where a time lies. Assumes nothing.
 use mathlib.Core.Path.{_≡_, refl, sym, ap, _∙_}
-use mathlib.Core.Bool.{Bool, true, false, _&&_}
+use mathlib.Core.Bool.{Bool, _&&_}
 use mathlib.Core.Logic.{⊎-elim}
-use Prim.Native.Nat.{ℕ, zero, suc, _+_, _-_, _*_, _/_, _≤_, _<_}
-use native.Mathlib.Nat.{eq-or-lt-of-le, eq-zero-or-pos, mul-le-mul, mul-le-mul-left, mul-le-mul-right, div-le-of-le-mul, le-div-iff-mul-le, mul-sub}
+use Prim.Native.Nat.{ℕ, _+_, _-_, _*_, _≤_, _<_}
+use native.Mathlib.Nat.{eq-zero-or-pos, mul-le-mul, mul-le-mul-right, div-le-of-le-mul, le-div-iff-mul-le, mul-sub}
 use native.Mathlib.Omega.{arith}
-use borrow.Author.Tests.{leb-true, le-leb, lt-leb, eqb-true, ltb-true, ltb-false, le-ltb}
+use borrow.Author.Tests.{leb-true, le-leb, lt-leb, eqb-true, ltb-true, ltb-false}
 use lib.Dec.{leb, ltb, eqb}
 use Rattle.laws.specs.Pick.{pick}
 use Rattle.laws.specs.Scan.{scan}
 use Rattle.laws.proofs.Num.{below-or-not}
 use Rattle.laws.proofs.Tests.{both-left, both-right}
-use Rattle.laws.proofs.Scans.{scan-all, scan-bad, scan-before, scan-most}
+use Rattle.laws.proofs.Scans.{scan-all, scan-bad, scan-before}
 use Rattle.hydrograph.specs.InflowRows.{time, ratio, lineAt, onLine}
 use Rattle.hydrograph.specs.Needs.{LineOk}
 

@@ -1,7 +1,7 @@
 -- Adding a subarea's parts row by row: the invariant of that loop, and a law for each of its needs. Assumes nothing.
-use mathlib.Core.Path.{_≡_, refl, sym, ap, _∙_}
-use mathlib.Core.List.{List, [], _∷_, _++_}
-use Prim.Native.Nat.{ℕ, zero, suc, _+_, _-_, _*_, _/_, _≤_, _<_, min}
+use mathlib.Core.Path.{_≡_, sym, ap, _∙_}
+use mathlib.Core.List.{List, _∷_, _++_}
+use Prim.Native.Nat.{ℕ, _+_, _-_, _≤_, _<_, min}
 use native.Mathlib.Omega.{arith}
 use native.Mathlib.Nat.{add-zero}
 use lib.ListN.{length, getD, take, drop, set, length-set}
@@ -11,10 +11,10 @@ use Rattle.laws.specs.Filled.{Filled}
 use Rattle.laws.proofs.Sums.{sum-same, sum-zeros}
 use Rattle.laws.proofs.Fill.{drop-one, drop-none, fill-turn, fill-end}
 use Rattle.curve.specs.Needs.{CurveOk}
-use Rattle.hydrograph.specs.InflowRows.{weight, weightAt, weights, totalWeight, runoffAt, term, depthReleased, volumeOf, volume, part}
+use Rattle.hydrograph.specs.InflowRows.{weightAt, weights, totalWeight, runoffAt, term, volume, part}
 use Rattle.hydrograph.specs.Needs.{product, plus, TimingOk, RainOk, Below}
 use Rattle.hydrograph.proofs.Weights.{weight-most, in-time}
-use Rattle.hydrograph.proofs.Released.{runoff-most, volume-none}
+use Rattle.hydrograph.proofs.Released.{runoff-most}
 
 module _ (C Tp D : ℕ) (rain ws qs : List ℕ) (m : ℕ) (weighed : Filled (weightAt Tp D) (weights Tp D) ws) (ran : Filled (runoffAt C rain) (m + 1) qs) where
   -- the products of the two lists through row k are the terms that are not 0

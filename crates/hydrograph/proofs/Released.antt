@@ -1,5 +1,5 @@
 -- What is released through a row never falls, is bounded, and is all of a storm that has passed. Assumes nothing.
-use mathlib.Core.Path.{_≡_, refl, sym, ap, _∙_, subst}
+use mathlib.Core.Path.{_≡_, sym, ap, _∙_}
 use mathlib.Core.Logic.{⊎-elim}
 use mathlib.Core.List.{List}
 use Prim.Native.Nat.{ℕ, zero, suc, _+_, _-_, _*_, _/_, _≤_, _<_, min}
@@ -10,7 +10,7 @@ use native.Mathlib.Omega.{arith}
 use Rattle.laws.specs.Sum.{sumTo}
 use Rattle.laws.proofs.Sums.{sum-le, sum-same, sum-times, sum-zeros}
 use Rattle.curve.specs.Needs.{CurveOk}
-use Rattle.laws.specs.Limits.{mostRain, mostArea}
+use Rattle.laws.specs.Limits.{mostArea}
 use Rattle.runoff.specs.RunoffDepth.{depth}
 use Rattle.runoff.proofs.Rising.{depth-rises, depth-most, depth-bound}
 use Rattle.hydrograph.specs.InflowRows.{weight, weightAt, weights, totalWeight, runoffAt, term, depthReleased, volumeOf, volume, part}

@@ -2,7 +2,7 @@
 use mathlib.Core.Path.{_≡_}
 use mathlib.Core.Bool.{false}
 use mathlib.Core.List.{List, [], _∷_, _++_}
-use Prim.Native.Nat.{ℕ, _+_, _-_, _*_, _/_, _<_}
+use Prim.Native.Nat.{ℕ, _+_, _-_, _*_, _<_}
 use lib.ListN.{length}
 use lib.Dec.{T, eqb}
 use lib.IntN.{pos}
@@ -11,12 +11,12 @@ use lib.Ieee.Exact.{HasValue}
 use Rattle.laws.specs.Pick.{pick}
 use Rattle.laws.specs.Within.{within}
 use Rattle.pond.specs.PondRows.{stageAt}
-use Rattle.rows.specs.Figures.{at, peakRow, firstForged}
+use Rattle.rows.specs.Figures.{at, peakRow}
 use Rattle.subarea.specs.declared.Setup.{Setup}
 use Rattle.refusals.specs.declared.Refusal.{Refusal}
 use Rattle.subarea.specs.Records.{halfOf}
 use Rattle.checks.specs.Site.{Rows, asked}
-use Rattle.refusals.specs.Refusals.{none, unless, firstOf, firstRefusal, after}
+use Rattle.refusals.specs.Refusals.{none, unless, firstRefusal, after}
 use Rattle.checks.specs.Order.{frameLines, lastGood, pondLines, forgedLine}
 use Rattle.marks.specs.declared.Point.{Point}
 use Rattle.marks.specs.declared.Mark.{Mark}

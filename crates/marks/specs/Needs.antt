@@ -1,7 +1,7 @@
 -- What contracts ask of a mark, and proofs use; no rule of document 01 is here.
 use mathlib.Core.Path.{_≡_}
 use mathlib.Core.List.{List}
-use Prim.Native.Nat.{ℕ, _+_, _-_, _*_, _/_, _≤_}
+use Prim.Native.Nat.{ℕ, _+_, _-_, _*_, _≤_}
 use lib.ListN.{length}
 use Rattle.laws.specs.Limits.{mostStep, lastNumber}
 use Rattle.pond.specs.Needs.{PondOk}

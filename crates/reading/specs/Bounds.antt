@@ -18,7 +18,7 @@ pub record Within (a e : ℕ) (s : List ℕ) : Type 0 where
   pub high : e ≤ length s
 
 -- what is laid of a file fits its lists, which are given as they were lent
-pub record SiteOk (rows rain subareas pond : ℕ) (rainList subareaList pondList : List ℕ) : Type 0 where
+pub record LaidOk (rows rain subareas pond : ℕ) (rainList subareaList pondList : List ℕ) : Type 0 where
   pub rows-fit : rows ≤ rowsRoom
   pub rain-fits : rain ≤ length rainList
   pub subareas-fit : subareas ≤ length subareaList

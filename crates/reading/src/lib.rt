@@ -7,7 +7,7 @@ pub mod room;
 
 use laws::limits;
 use subarea::Setup;
-ghost use Rattle.reading.specs.Bounds.{SiteOk};
+ghost use Rattle.reading.specs.Bounds.{LaidOk};
 
 // What is wrong with a file, and in which line; 0 for nothing. Asked for there was item number k of its kind, in subarea
 // `of`; where there are too many, k is document 01's limit, or 0 where the limit is told by other numbers of the file.
@@ -20,7 +20,7 @@ pub struct Fault {
 }
 
 // A file's numbers: those that stand alone, and how many of each list are laid.
-pub struct Site {
+pub struct Laid {
     pub setup: Setup,
     pub rows: usize,
     pub rain: usize,
@@ -31,8 +31,8 @@ pub struct Site {
 
 // Lays a file's numbers into lists of zeros. A count that the lists have no room for ends the reading; one that the engine
 // refuses does not.
-pub fn read(s: &[u8], rain: &mut [u64], subareas: &mut [u64], pond: &mut [u64]) -> Site
-    ensures { λ r. ⌜ SiteOk (r .rows) (r .rain) (r .subareas) (r .pond) (now (rain .entry)) (now (subareas .entry)) (now (pond .entry)) ⌝ }
+pub fn read(s: &[u8], rain: &mut [u64], subareas: &mut [u64], pond: &mut [u64]) -> Laid
+    ensures { λ r. ⌜ LaidOk (r .rows) (r .rain) (r .subareas) (r .pond) (now (rain .entry)) (now (subareas .entry)) (now (pond .entry)) ⌝ }
 {
     let rows = numbers::count(
         s,
@@ -48,7 +48,7 @@ pub fn read(s: &[u8], rain: &mut [u64], subareas: &mut [u64], pond: &mut [u64]) 
     let records = lists::subarea_records(s, entries.end, subareas);
     let table = lists::pond_rows(s, records.end, pond);
     let end = numbers::finish(s, table.end, items::END);
-    Site {
+    Laid {
         setup: Setup {
             step: step.value,
             first: first.value,

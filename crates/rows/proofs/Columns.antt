@@ -5,10 +5,9 @@ use Prim.Native.Nat.{ℕ, zero, suc, _+_, _-_, _≤_, _<_}
 use native.Mathlib.Nat.{le-of-suc-le-suc}
 use native.Mathlib.Numerals.{add-one}
 use native.Mathlib.Omega.{arith}
-use lib.ListN.{length, getD, take, drop, length-drop}
+use lib.ListN.{length, take, drop, length-drop}
 use lib.Seq.{getD-drop}
 use borrow.Author.Tests.{ne-eqb}
-use Rattle.laws.specs.Pick.{pick}
 use Rattle.pond.specs.PondRows.{next, empty}
 use Rattle.pond.specs.declared.State.{State}
 use Rattle.rows.specs.Routing.{states, endOf, outflowOf, storageOf, outflows, storages, stateBefore}

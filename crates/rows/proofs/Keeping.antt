@@ -1,9 +1,9 @@
 -- The figures of the first rows, one row at a time. Assumes nothing.
-use mathlib.Core.Path.{_≡_, refl, sym, ap, _∙_}
-use mathlib.Core.Bool.{Bool, true, false}
+use mathlib.Core.Path.{_≡_, refl, ap}
+use mathlib.Core.Bool.{Bool}
 use mathlib.Core.Logic.{⊎-elim}
 use mathlib.Core.List.{List}
-use Prim.Native.Nat.{ℕ, zero, suc, _+_, _-_, _*_, _≤_, _<_, max}
+use Prim.Native.Nat.{ℕ, zero, suc, _+_, _-_, _≤_, _<_, max}
 use native.Mathlib.Nat.{eq-or-lt-of-le, le-of-suc-le-suc, eq-zero-or-pos}
 use native.Mathlib.Numerals.{add-one}
 use native.Mathlib.Omega.{arith}
@@ -15,7 +15,6 @@ use Rattle.laws.specs.Sum.{sumTo}
 use Rattle.laws.proofs.Num.{below-or-not}
 use Rattle.laws.proofs.Sums.{sum-more}
 use Rattle.laws.proofs.Scans.{scan-is, scan-before, scan-bad, scan-most}
-use Rattle.rows.specs.declared.Kept.{Kept}
 use Rattle.rows.specs.Figures.{maxTo, at, before, releaseAt, peakRow, rowStage, keptTo}
 use Rattle.rows.specs.Needs.{keptWith}
 

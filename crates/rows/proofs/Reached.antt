@@ -11,13 +11,12 @@ use lib.Dec.{leb}
 use borrow.Author.Tests.{leb-true, leb-false}
 use Rattle.laws.specs.Pick.{pick}
 use Rattle.laws.specs.Sum.{sumTo}
-use Rattle.laws.proofs.Sums.{sum-more}
-use Rattle.pond.specs.PondRows.{rowsIn, discharge, lastSum, arrived, settled, next, empty}
+use Rattle.pond.specs.PondRows.{lastSum, arrived, settled, next, empty}
 use Rattle.pond.specs.Needs.{PondOk, StateOk}
 use Rattle.pond.specs.declared.State.{State}
 use Rattle.pond.proofs.Sums.{discharge-last-most}
 use Rattle.pond.proofs.Steps.{settled-ok, settled-sum, step-balance, empty-ok}
-use Rattle.rows.specs.Routing.{states, endOf, outflowOf, storageOf, outflows, storages, passed}
+use Rattle.rows.specs.Routing.{endOf, outflowOf, storageOf, outflows, storages, passed}
 use Rattle.rows.specs.Figures.{at, before, releaseAt}
 use Rattle.rows.specs.Needs.{RowOk, RowsOk}
 use Rattle.rows.proofs.Prefix.{passed-most}

@@ -1,19 +1,19 @@
 -- What a dry run tells of the rows that are then written, and what the test of refusal 17 leaves. Assumes nothing.
 use mathlib.Core.Path.{_≡_, refl, sym, ap, _∙_}
-use mathlib.Core.Bool.{Bool, true, false, _&&_}
+use mathlib.Core.Bool.{true, _&&_}
 use mathlib.Core.Logic.{⊎-elim}
 use mathlib.Core.List.{List}
 use Prim.Native.Nat.{ℕ, _+_, _-_, _*_, _≤_, _<_}
 use native.Mathlib.Omega.{arith}
 use borrow.Author.Tests.{leb-true, le-leb, lt-ltb, le-ltb}
-use lib.ListN.{length, take}
+use lib.ListN.{length}
 use lib.Seq.{take-all}
 use lib.Dec.{leb}
 use Rattle.laws.proofs.Num.{below-or-not}
 use Rattle.laws.proofs.Tests.{both-left, both-right, both-true}
 use Rattle.laws.proofs.Scans.{scan-all, scan-whole}
 use Rattle.pond.specs.PondRows.{lastSum, lastDischarge, empty}
-use Rattle.pond.specs.Needs.{PondOk, StateOk}
+use Rattle.pond.specs.Needs.{PondOk}
 use Rattle.pond.specs.declared.State.{State}
 use Rattle.pond.proofs.Steps.{empty-ok}
 use Rattle.rows.specs.Routing.{endOf, outflowOf, outflows, storages, passed, overRow}

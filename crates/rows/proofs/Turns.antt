@@ -1,16 +1,13 @@
 -- The loops over rows: the invariant of each, and a law for each of its needs. Assumes nothing.
 use mathlib.Core.Path.{_≡_, refl, sym, ap, _∙_}
-use mathlib.Core.Bool.{Bool, true, false}
-use mathlib.Core.Logic.{⊎-elim}
 use mathlib.Core.List.{List, map}
-use Prim.Native.Nat.{ℕ, zero, suc, _+_, _-_, _*_, _≤_, _<_}
+use Prim.Native.Nat.{ℕ, _+_, _-_, _*_, _≤_, _<_}
 use native.Mathlib.Nat.{mul-le-mul-right}
 use native.Mathlib.Omega.{arith}
-use borrow.Author.Tests.{eq-eqb, ne-eqb, lt-ltb, le-ltb}
+use borrow.Author.Tests.{ne-eqb, lt-ltb, le-ltb}
 use lib.ListN.{length, take, set, length-set}
 use lib.Seq.{ext-getD}
 use lib.Dec.{eqb}
-use Rattle.laws.specs.Pick.{pick}
 use Rattle.laws.specs.Sum.{sumTo}
 use Rattle.laws.specs.Filled.{Filled}
 use Rattle.laws.proofs.Sums.{sum-more, sum-most}
@@ -23,7 +20,7 @@ use Rattle.pond.proofs.Sums.{last-most}
 use Rattle.rows.specs.declared.Kept.{Kept}
 use Rattle.rows.specs.declared.Dry.{Dry}
 use Rattle.rows.specs.Routing.{states, endOf, outflowOf, storageOf, outflows, storages, passed, overRow}
-use Rattle.rows.specs.Needs.{dryOf, keptWith, TurnOk, RowOk, RowsOk}
+use Rattle.rows.specs.Needs.{dryOf, keptWith, TurnOk, RowsOk}
 use Rattle.rows.specs.Figures.{at, before, releaseAt, rowStage, keptTo}
 use Rattle.rows.proofs.Prefix.{passed-most}
 use Rattle.rows.proofs.Columns.{column-at, column-length, end-more, before-at}

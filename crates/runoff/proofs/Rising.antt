@@ -1,17 +1,14 @@
 -- Runoff never falls as the rain rises, and is never more than the rain. Assumes nothing.
-use mathlib.Core.Path.{_≡_, refl, sym, _∙_}
+use mathlib.Core.Path.{_≡_}
 use mathlib.Core.Logic.{⊎-elim}
 use Prim.Native.Nat.{ℕ, _+_, _-_, _*_, _/_, _≤_, _<_}
-use native.Mathlib.Nat.{mul-le-mul, mul-le-mul-left, mul-le-mul-right, div-le-of-le-mul}
+use native.Mathlib.Nat.{mul-le-mul, mul-le-mul-left, div-le-of-le-mul}
 use native.Mathlib.Omega.{arith}
-use borrow.Author.Tests.{leb-true, leb-false, le-leb, lt-leb}
-use lib.Dec.{leb}
-use Rattle.laws.specs.Pick.{pick}
-use Rattle.laws.proofs.Tests.{by-test}
+use borrow.Author.Tests.{le-leb, lt-leb}
 use Rattle.laws.proofs.Num.{below-or-not, div-cross}
 use Rattle.curve.specs.Needs.{CurveOk}
 use Rattle.laws.specs.Limits.{mostRain}
-use Rattle.runoff.specs.RunoffDepth.{noRunoff, N, M, depth}
+use Rattle.runoff.specs.RunoffDepth.{N, M, depth}
 
 -- with N above 0 the depth is the quotient
 pub depth-some : (C p : ℕ) → 200000 < C * p + 2000 * C → depth C p ≡ 1000 * (N C p * N C p) / (C * M C p)

@@ -1,12 +1,11 @@
 -- The refusal of an answer is the first line of `studyLines`, document 01's order, that refuses; row numbers and the balance of what a study leaves. Assumes nothing.
 use mathlib.Core.Path.{_≡_, refl, sym, ap, _∙_}
 use mathlib.Core.Bool.{Bool, true, false}
-use mathlib.Core.List.{List, [], _∷_, _++_}
+use mathlib.Core.List.{List, [], _∷_}
 use Prim.Native.Nat.{ℕ, _+_, _<_}
 use native.Mathlib.Omega.{arith}
 use borrow.Author.Tests.{eqb-true, eq-eqb}
 use lib.Dec.{eqb}
-use lib.ListN.{length}
 use Rattle.laws.specs.Pick.{pick}
 use Rattle.laws.specs.Sum.{sumTo}
 use Rattle.pond.specs.PondRows.{empty}
@@ -19,14 +18,14 @@ use Rattle.refusals.specs.Refusals.{passes}
 use Rattle.study.specs.declared.StudyAnswer.{StudyAnswer}
 use Rattle.study.specs.declared.StudyAnswer.the-variants.{Refused, Done}
 use Rattle.checks.specs.Site.{Site, Rows, asked}
-use Rattle.refusals.specs.Refusals.{refuse, none, firstRefusal, AllPass, First}
-use Rattle.study.specs.Study.{overCheck, overOf, studyLines, studyRefusal, studyAnswer, studyRows, studyFigures, routed, studyRefusalIn, studyValues, studyValuesIn, noFigures}
-use Rattle.checks.specs.Order.{runLines, listLines, pondLines, checkLines}
+use Rattle.refusals.specs.Refusals.{refuse, none, AllPass, First}
+use Rattle.study.specs.Study.{overCheck, overOf, studyLines, studyRefusal, studyAnswer, studyRows, studyFigures, studyRefusalIn, studyValues, studyValuesIn, noFigures}
+use Rattle.checks.specs.Order.{checkLines}
 use Rattle.inflow.specs.Inflow.{inflowAt, inflowOf}
 use Rattle.subarea.specs.Records.{halfOf}
 use Rattle.refusals.proofs.Orders.{all-pass, both-pass, last-is, first-there}
 use Rattle.inflow.proofs.Inflows.{rows-length}
-use Rattle.checks.proofs.Ready.{run-ok, site-ok}
+use Rattle.checks.proofs.Ready.{site-ok}
 
 over-passes : (h : ℕ) (p vs : List ℕ) → overCheck h p vs .number ≡ 0 → (overCheck h p vs ≡ none) × (overRow h p empty vs ≡ 0)
 unfolding overCheck

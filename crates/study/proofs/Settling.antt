@@ -1,5 +1,5 @@
 -- What refusal 14 decides, and where the checks 1 to 13 leave the answer to it. Assumes nothing.
-use mathlib.Core.Path.{_≡_, sym, ap, _∙_}
+use mathlib.Core.Path.{_≡_, sym}
 use mathlib.Core.List.{List, [], _∷_}
 use Prim.Native.Nat.{ℕ}
 use borrow.Author.Tests.{eq-eqb, ne-eqb}
@@ -8,7 +8,7 @@ use Rattle.rows.specs.Routing.{overRow}
 use Rattle.refusals.specs.declared.Refusal.{Refusal}
 use Rattle.study.specs.declared.StudyAnswer.the-variants.{Refused, Done}
 use Rattle.checks.specs.Site.{Site, Rows}
-use Rattle.refusals.specs.Refusals.{refuse, none, firstAfter, firstRefusal, after}
+use Rattle.refusals.specs.Refusals.{refuse, firstAfter, firstRefusal, after}
 use Rattle.study.specs.Study.{overCheck, overOf, studyRefusal, figuresAll, routed, studyAnswer, studyRows}
 use Rattle.checks.specs.Order.{checkLines}
 use Rattle.study.specs.Needs.{overAnswer, decidedAnswer, decidedRows}

@@ -4,9 +4,8 @@ use borrow.Author.Needs.{needs}
 use Rattle.refusals.specs.declared.Refusal.{Refusal}
 use Rattle.checks.specs.Site.{Site, Rows, siteNow, rowsNow}
 use Rattle.checks.specs.Order.{pondLines, inflowLines}
-use Rattle.subarea.specs.Records.{halfOf}
 use Rattle.refusals.proofs.Orders.{stops, goes-on}
-use Rattle.checks.proofs.Ready.{inflow-ready, half-ok}
+use Rattle.checks.proofs.Ready.{inflow-ready}
 use Rattle.checks.proofs.study_checks.Statement.{statement}
 use Rattle.checks.proofs.study_checks.Tie as tie
 

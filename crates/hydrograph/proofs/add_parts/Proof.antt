@@ -1,13 +1,13 @@
 -- `hydrograph::add_parts` meets its contract. Assumes nothing.
 use mathlib.Core.Path.{_≡_, refl, sym, ap, _∙_}
-use Prim.Native.Nat.{ℕ, _+_, _-_, _*_, _/_, _≤_, _<_}
+use Prim.Native.Nat.{ℕ, _+_, _-_, _/_, _≤_}
 use native.Mathlib.Omega.{arith}
 use borrow.Author.Needs.{needs}
-use lib.ListN.{length, getD, length-set}
+use lib.ListN.{length}
 use Rattle.laws.specs.Sum.{sumTo}
 use Rattle.hydrograph.specs.InflowRows.{weights, term, depthReleased, volumeOf, volume}
 use Rattle.hydrograph.specs.Needs.{product, TimingOk, RainOk}
-use Rattle.hydrograph.proofs.Weights.{peak-most, weights-most, total-some}
+use Rattle.hydrograph.proofs.Weights.{weights-most, total-some}
 use Rattle.hydrograph.proofs.Released.{released-most, volume-rises, volume-most, volume-none}
 use Rattle.hydrograph.proofs.Parts.{Adding, products, weights-below, depths-below, row-first, adding-turn, adding-end}
 use Rattle.hydrograph.proofs.add_parts.Statement.{statement}

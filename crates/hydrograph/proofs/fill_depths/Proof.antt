@@ -1,8 +1,7 @@
 -- `hydrograph::fill_depths` meets its contract. The invariant: the depths passed stand in the list, and last is the one before. Assumes nothing.
 use mathlib.Core.Path.{_≡_, refl}
-use Prim.Native.Nat.{ℕ, _+_, _-_, _≤_}
+use Prim.Native.Nat.{_+_, _-_, _≤_}
 use native.Mathlib.Omega.{arith}
-use borrow.Author.Needs.{needs}
 use lib.ListN.{length, length-set}
 use Rattle.laws.specs.Filled.{Filled}
 use Rattle.laws.proofs.Fill.{filled-none, filled-more}

@@ -1,12 +1,11 @@
 -- `rows::figures_of` meets its contract. Assumes nothing.
 use mathlib.Core.Path.{_≡_, ap, _∙_}
-use Prim.Native.Nat.{ℕ, _+_, _-_, _*_, _≤_, _<_}
+use Prim.Native.Nat.{_+_, _-_, _<_}
 use native.Mathlib.Omega.{arith}
 use borrow.Author.Needs.{needs}
 use lib.ListN.{length}
 use Rattle.laws.specs.Sum.{sumTo}
 use Rattle.laws.proofs.Sums.{sum-more, sum-most}
-use Rattle.pond.specs.PondRows.{lastSum}
 use Rattle.pond.proofs.Sums.{last-most}
 use Rattle.rows.specs.Figures.{at, keptTo, figuresOf}
 use Rattle.rows.specs.Needs.{RowOk}

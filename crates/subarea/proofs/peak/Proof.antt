@@ -1,6 +1,5 @@
 -- `subarea::peak` meets its contract. Assumes nothing.
 use mathlib.Core.Path.{ap, _∙_}
-use Prim.Native.Nat.{ℕ}
 use borrow.Author.Needs.{needs}
 use Rattle.travel.specs.TravelTime.{timeToPeak}
 use Rattle.travel.proofs.Times.{concentration-ok}

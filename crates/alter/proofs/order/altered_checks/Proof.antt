@@ -11,7 +11,7 @@ use Rattle.refusals.specs.declared.Refusal.{Refusal}
 use Rattle.refusals.specs.Refusals.{unless, firstAfter, firstRefusal, AllPass}
 use Rattle.refusals.proofs.Orders.{charged, charge-none, appended, all-pass, stops, goes-on}
 use Rattle.subarea.specs.Records.{patchesPass, segmentsPass}
-use Rattle.checks.specs.Order.{total, limitTests, timingTests, listLines}
+use Rattle.checks.specs.Order.{limitTests, timingTests, listLines}
 use Rattle.checks.specs.Needs.{overRecord}
 use Rattle.checks.proofs.Ready.{list-ok}
 use Rattle.alter.specs.Altering.{altered}

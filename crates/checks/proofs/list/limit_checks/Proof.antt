@@ -6,7 +6,7 @@ use borrow.Author.Needs.{needs}
 use lib.ListN.{length}
 use Rattle.refusals.specs.Refusals.{firstAfter}
 use Rattle.refusals.proofs.Orders.{joined, charged}
-use Rattle.subarea.specs.Records.{width, recordsIn, recordAt, patchesPass, segmentsPass}
+use Rattle.subarea.specs.Records.{width, recordsIn, patchesPass, segmentsPass}
 use Rattle.subarea.proofs.Subareas.{part-is, record-length}
 use Rattle.checks.proofs.Kept.{soFar, none-yet, one-record, all-records}
 use Rattle.checks.proofs.list.limit_checks.Statement.{statement}

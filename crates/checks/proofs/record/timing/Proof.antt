@@ -1,5 +1,5 @@
 -- `checks::record::timing` meets its contract. Assumes nothing.
-use mathlib.Core.Path.{_≡_, ap}
+use mathlib.Core.Path.{ap}
 use borrow.Author.Needs.{needs}
 use Rattle.travel.specs.Needs.{TimeOk}
 use Rattle.travel.proofs.Times.{concentration-ok}

@@ -11,10 +11,6 @@ use Rattle.host.specs.Gathered.{putAt}
 use Rattle.host.proofs.Stores.{record-stores, patches-length}
 use Rattle.host.proofs.gathering.put.Statement.{statement}
 use Rattle.host.proofs.gathering.put.Tie as tie
-use Rattle.host.proofs.gathering.put.Reads as reads
-use Rattle.host.proofs.gathering.put.Lts as lts
-use Rattle.host.proofs.gathering.put_patches.Reads as put-patches-reads
-use Rattle.host.proofs.gathering.put_segments.Reads as put-segments-reads
 
 mul-at : tie.Need-mul-at
 mul-at c = search needs

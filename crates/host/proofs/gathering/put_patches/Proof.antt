@@ -10,9 +10,6 @@ use Rattle.host.specs.Flattened.{patchesTo}
 use Rattle.host.proofs.Stores.{patches-step}
 use Rattle.host.proofs.gathering.put_patches.Statement.{statement}
 use Rattle.host.proofs.gathering.put_patches.Tie as tie
-use Rattle.host.proofs.gathering.put_patches.Reads as reads
-use Rattle.host.proofs.gathering.put_patches.Lts as lts
-use Rattle.host.proofs.gathering.put_three.Reads as put-three-reads
 
 abbrev Inv-loop : tie.InvT-loop
 Inv-loop to₀ at own k₀ to k = (k ≤ mostPatches) × (to ≡ sets to₀ at (patchesTo k own))

@@ -10,9 +10,6 @@ use Rattle.host.specs.Flattened.{segmentsTo}
 use Rattle.host.proofs.Stores.{segments-step}
 use Rattle.host.proofs.gathering.put_segments.Statement.{statement}
 use Rattle.host.proofs.gathering.put_segments.Tie as tie
-use Rattle.host.proofs.gathering.put_segments.Reads as reads
-use Rattle.host.proofs.gathering.put_segments.Lts as lts
-use Rattle.host.proofs.gathering.put_three.Reads as put-three-reads
 
 abbrev Inv-loop : tie.InvT-loop
 Inv-loop to₀ at own k₀ to k = (k ≤ mostSegments) × (to ≡ sets to₀ at (segmentsTo k own))

@@ -3,8 +3,6 @@ use native.Mathlib.Numerals.{add-one, add-two}
 use borrow.Author.Needs.{needs}
 use Rattle.host.proofs.gathering.put_three.Statement.{statement}
 use Rattle.host.proofs.gathering.put_three.Tie as tie
-use Rattle.host.proofs.gathering.put_three.Reads as reads
-use Rattle.host.proofs.gathering.put_three.Lts as lts
 
 add-b : tie.Need-add-b
 add-b c = search needs

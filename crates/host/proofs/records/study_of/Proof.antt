@@ -15,11 +15,6 @@ use Rattle.host.proofs.Handing.{used-most}
 use Rattle.host.proofs.StudyPromise.{StudyIs}
 use Rattle.host.proofs.records.study_of.Statement.{statement}
 use Rattle.host.proofs.records.study_of.Tie as tie
-use Rattle.host.proofs.records.study_of.Reads as reads
-use Rattle.host.proofs.records.study_of.Lts as lts
-use Rattle.answers.proofs.put_study.Reads as put-study-reads
-use Rattle.host.proofs.records.used_by.Reads as used-by-reads
-use Rattle.study.proofs.run.Reads as run-reads
 
 array-share-prefix-numbers : tie.Need-array-share-prefix-numbers
 array-share-prefix-numbers c = omega (arith, c .used-by .ensures, used-most (c .before .before .before .before .before .before .before .args .n), simp length-map at (c .before .before .before .before .before .before .before .good .0 .1 .1 .0 .1 .0 .1))
