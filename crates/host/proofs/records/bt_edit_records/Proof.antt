@@ -19,7 +19,7 @@ use contract.Monad.{Fun, fact, fact-mono}
 use contract.Running.{givenOf, tables, tablesOf}
 use types.Kit.{Given, ‵, _$_, _∵_, !, qed, by, move, split, join, fsplit, fjoin, suffices, frame}
 use types.Part.{agg, whole, sub, look-in}
-use types.Run.{look, init, forget, stop, hop, fld, from, load, addr, of-opd, and-then, no-more, assigns, land, returns, enter, alloc1, alloc0, params1, pass1, pass0, free1, free0}
+use types.Run.{look, init, stop, hop, fld, from, load, addr, of-opd, and-then, no-more, assigns, land, returns, enter, alloc1, alloc0, params1, pass1, pass0}
 use sound.WpLaws.{FmC, fmOf}
 use denote.RattleType.{flat, owns}
 use denote.Laws.{Is, Ises, Are, Spells, valss, shows}
@@ -48,7 +48,7 @@ use Rattle.host.proofs.records.edit_of.Symbol as core-def
 use Rattle.host.proofs.records.edit_of.Symbol.{name as #core}
 use Rattle.host.proofs.records.edit_of.Met as core-thm
 use Rattle.host.proofs.OneSaid.{also}
-use Rattle.host.proofs.Walking.{apart, tokens, spelled, ends, says-on, held, calls-on, Gather, gathers}
+use Rattle.host.proofs.Walking.{apart, tokens, spelled, ends, says-on, frees-all, held, calls-on, Gather, gathers}
 use Rattle.host.proofs.EditPromise.{Says, promised}
 use Rattle.host.proofs.records.bt_edit_records.Key.{name as #entry}
 use Rattle.host.proofs.records.bt_edit_records as entry
@@ -134,12 +134,8 @@ module _ {M : Type 1} (𝓤 : URA M) (H : Heap 𝓤) (A : Atoms 𝓤) (mem : Mem
       move ! (1 ∷ []) $ peeks ! u64 (Is u64) (shows 𝓤 H A u64) r (n ∷ []) (λ ok. land ! (from ! (stop !)) (init ! 48 refl (uint-lawful 𝓤 H A W w64 .typed r _ ok .0)) $
       returns ! (look ! 48 refl) $
       move ! (48 ∷ 49 ∷ 46 ∷ 47 ∷ 44 ∷ 45 ∷ 42 ∷ 43 ∷ 40 ∷ 41 ∷ 38 ∷ 39 ∷ 36 ∷ 37 ∷ 34 ∷ 35 ∷ 32 ∷ 33 ∷ 30 ∷ 31 ∷ 28 ∷ 29 ∷ 26 ∷ 27 ∷ 24 ∷ 25 ∷ 22 ∷ 23 ∷ 20 ∷ 21 ∷ 18 ∷ 19 ∷ 16 ∷ 17 ∷ 14 ∷ 15 ∷ 12 ∷ 13 ∷ 10 ∷ 11 ∷ 8 ∷ 9 ∷ 6 ∷ 7 ∷ 4 ∷ 5 ∷ []) $
-      forget ! 0 refl $ free1 ! $ forget ! 0 refl $ free1 ! $ forget ! 0 refl $ free1 ! $ forget ! 0 refl $ free1 ! $ forget ! 0 refl $ free1 ! $ forget ! 0 refl $
-      free1 ! $ forget ! 0 refl $ free1 ! $ forget ! 0 refl $ free1 ! $ forget ! 0 refl $ free1 ! $ forget ! 0 refl $ free1 ! $ forget ! 0 refl $ free1 ! $
-      forget ! 0 refl $ free1 ! $ forget ! 0 refl $ free1 ! $ forget ! 0 refl $ free1 ! $ forget ! 0 refl $ free1 ! $ forget ! 0 refl $ free1 ! $ forget ! 0 refl $
-      free1 ! $ forget ! 0 refl $ free1 ! $ forget ! 0 refl $ free1 ! $ forget ! 0 refl $ free1 ! $ forget ! 0 refl $ free1 ! $ forget ! 0 refl $ free1 ! $
-      forget ! 0 refl $ free1 ! $ free0 ! $ move ! (1 ∷ []) $ split ! $ move ! (4 ∷ 1 ∷ []) $ join ! $ move ! (1 ∷ 0 ∷ []) $ join ! $ join ! $
-      suffices ! _ (ends 𝓤 H A W entry.signature (entry.spec 𝓤 H A mem run) bound n r) $ frame ! $ by ! (says r)))))))))))))))))))))))))))
+      frees-all ! (_ ∷ _ ∷ _ ∷ _ ∷ _ ∷ _ ∷ _ ∷ _ ∷ _ ∷ _ ∷ _ ∷ _ ∷ _ ∷ _ ∷ _ ∷ _ ∷ _ ∷ _ ∷ _ ∷ _ ∷ _ ∷ _ ∷ _ ∷ []) $ move ! (1 ∷ []) $ split ! $ move ! (4 ∷ 1 ∷ []) $
+      join ! $ move ! (1 ∷ 0 ∷ []) $ join ! $ join ! $ suffices ! _ (ends 𝓤 H A W entry.signature (entry.spec 𝓤 H A mem run) bound n r) $ frame ! $ by ! (says r)))))))))))))))))))))))))))
 
 meets : {M : Type 1} (𝓤 : URA M) (H : Heap 𝓤) (A : Atoms 𝓤) (W : Given 𝓤 H A) (mem : Memory → SProp 𝓤) (run : Routine → Fun 𝓤) (𝓣 : Tables 𝓤 H)
     → Triple 𝓤 (𝓣 .C #gather) (Gather 𝓤 H A mem run) → Triple 𝓤 (𝓣 .C #core) (Core 𝓤 H A mem run) → Meets 𝓤 H A entry.signature (WpFn 𝓤 H (𝓣 .C) (𝓣 .Λ) code.function) (entry.spec 𝓤 H A mem run)
