@@ -4,12 +4,13 @@
  * Only whole numbers and pointers cross, and the doubles of a mark. A list is a pointer and a length, which counts
  * numbers, or records, and not bytes.
  *
- * What the caller must see to, since no proof can:
- *   - no pointer is null, also where the length beside it is 0;
+ * What the caller must see to, since nothing proves it and the engine cannot look:
+ *   - no pointer is null, also where the length beside it is 0, and each is a multiple of 8;
  *   - each list has as many numbers as its length says (records, where it is one of bt_subarea), and each answer as
  *     many as its parameter says;
  *   - no lent list overlaps another, nor an answer;
- *   - nobody else writes to them while a call runs.
+ *   - nobody else writes to them while a call runs;
+ *   - the stack has room for the call: under 34,000 bytes on x86-64, measured and not proved (docs/HOST.md, 'Stack').
  * Any numbers and any lengths may stand in them: what is out of limits is refused.
  */
 #ifndef BRIDLETENON_H
@@ -187,7 +188,8 @@ uint64_t bt_edit(uint64_t step, uint64_t first, const uint64_t *rain, size_t rai
                  const uint64_t fresh[BT_WIDTH], uint64_t answer[BT_EDIT_ANSWER_LENGTH],
                  int64_t changes[BT_CHANGES_LENGTH]);
 
-/* The same edit of a list of records. The new record is lent as its numbers still. */
+/* The same edit of a list of records. The new record is lent as its numbers still: of a bt_subarea, its address cast to
+   const uint64_t *. */
 uint64_t bt_edit_records(uint64_t step, uint64_t first, const uint64_t *rain, size_t rain_len, const bt_subarea *list,
                          size_t list_len, const uint64_t *pond, size_t pond_len, uint64_t *inflow, size_t inflow_len,
                          uint64_t *outflow, size_t outflow_len, uint64_t *storage, size_t storage_len, uint64_t place,
