@@ -21,7 +21,7 @@ use Rattle.inflow.specs.Inflow.{partOf}
 abbrev pub altered : List ℕ → ℕ → List ℕ → List ℕ
 altered s k r = take (width * (k - 1)) s ++ (r ++ drop (width * k) s)
 
--- the record that stood there
+-- the record that stood there (15 keeps k - 1 exact: `place-ready`)
 abbrev pub oldRecord : List ℕ → ℕ → List ℕ
 oldRecord s k = recordAt s (k - 1)
 

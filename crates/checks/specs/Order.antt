@@ -26,7 +26,7 @@ lengthsGood l = eqb (length (l .outflow)) (asked l) && (eqb (length (l .storage)
 unfoldable pub stepGood : Setup → Bool
 stepGood g = within leastStep (g .step) mostStep && eqb (g .step % 2) 0
 
--- 3: n + 1 entries, 1 <= n <= m; entry 0 is 0, none falls, none is above 30,000
+-- 3: n + 1 entries, 1 <= n <= m; entry 0 is 0, none falls, none is above 30,000 (i - 1 is read only where i is not 0)
 unfoldable pub entriesGood : List ℕ → ℕ → Bool
 entriesGood rain m = within 2 (length rain) (m + 1)
 
@@ -36,7 +36,7 @@ entryGood rain i = leb (getD rain i 0) mostRain && pick (eqb i 0) (eqb (getD rai
 abbrev pub firstEntry : List ℕ → ℕ
 firstEntry rain = scan (entryGood rain) (length rain) 0
 
--- 4: the last row number, first + m - 1, is at most 9,007,199,254,740,991 (m is at least 1 by then)
+-- 4: the last row number, first + m - 1, is at most 9,007,199,254,740,991 (exact: 1 leaves m at least 1, `frame-ok`)
 unfoldable pub lastGood : Setup → ℕ → Bool
 lastGood g m = leb (g .first + m - 1) lastNumber
 

@@ -39,7 +39,7 @@ coverTable =
     ∷ (32 ∷ 58 ∷ 72 ∷ 79 ∷ [])
     ∷ []
 
--- the number of cover code 1 to 22 on soil group 1 to 4 (A to D)
+-- the number of cover code 1 to 22 on soil group 1 to 4 (A to D) (exact: 6 leaves both at least 1, `patch-ok`)
 unfoldable pub coverNumber : ℕ → ℕ → ℕ
 unfolding coverTable
 coverNumber cover soil = getD (getD coverTable (cover - 1) []) (soil - 1) 0

@@ -39,7 +39,7 @@ ratio i = getD (map (λ (k : Knot). k .ratio) shape) i 0
 unfoldable pub lineAt : ℕ → ℕ → ℕ
 lineAt Tp t = scan (λ i. ltb (time (i + 1) * Tp) t) 32 0
 
--- the straight line through (a, y0) and (b, y1) at t is the exact fraction top / (b - a); 1000 times it, down
+-- the straight line through (a, y0) and (b, y1) at t is the exact fraction top / (b - a); 1000 times it, down (a <= t <= b and a < b: `weight-on`, `line-ok`)
 abbrev pub top : ℕ → ℕ → ℕ → ℕ → ℕ → ℕ
 top t a b y0 y1 = y0 * (b - t) + y1 * (t - a)
 
@@ -70,12 +70,12 @@ sumFrom1 f n = sumTo (λ i. f (i + 1)) n
 unfoldable pub totalWeight : ℕ → ℕ → ℕ
 totalWeight Tp D = sumTo (weightAt Tp D) (weights Tp D)
 
--- Q at t, the runoff of rain entry t: 0 for t <= 0, the last from n on
+-- Q at t, the runoff of rain entry t: 0 for t <= 0, the last from n on (length rain - 1 is exact: 3 leaves 2 entries at least, `run-ok` of checks)
 unfoldable pub runoffAt : ℕ → List ℕ → ℕ → ℕ
 runoffAt C rain zero = 0
 runoffAt C rain (suc t) = depth C (getD rain (min (suc t) (length rain - 1)) 0)
 
--- weight j times Q at k + 1 - j
+-- weight j times Q at k + 1 - j (stops at 0 on purpose: Q at t is 0 for t <= 0)
 abbrev pub term : ℕ → ℕ → ℕ → List ℕ → ℕ → ℕ → ℕ
 term C Tp D rain k j = weight Tp D j * runoffAt C rain (k + 1 - j)
 
@@ -91,7 +91,7 @@ volumeOf A d = 363 * A * d / 10000
 abbrev pub volume : ℕ → ℕ → ℕ → ℕ → List ℕ → ℕ → ℕ
 volume C A Tp D rain k = volumeOf A (depthReleased C Tp D rain k)
 
--- a subarea's part of row k: that less the same at k - 1
+-- a subarea's part of row k: that less the same at k - 1 (exact: `volume-rises`)
 unfoldable pub part : ℕ → ℕ → ℕ → ℕ → List ℕ → ℕ → ℕ
 part C A Tp D rain k = volume C A Tp D rain k - volume C A Tp D rain (k - 1)
 

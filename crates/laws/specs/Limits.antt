@@ -1,3 +1,4 @@
+-- The rule of `-`, for every crate: it stops at 0. Beside each definition that subtracts stands the law that makes it exact, or that it has a case of its own for 0, or that it stops there on purpose.
 -- Document 01, 'What a study is made of': its limits, each under one name. Units: rows, seconds, thousandths of an inch, hundredths of an acre, thousandths of a cubic foot.
 use Prim.Native.Nat.{ℕ}
 

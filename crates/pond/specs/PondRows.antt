@@ -32,7 +32,7 @@ discharge p i = getD p (rowWidth * i + 2) 0
 unfoldable pub sumAt : ℕ → List ℕ → ℕ → ℕ
 sumAt h p i = storage p i + h * discharge p i
 
--- the last X_i
+-- the last X_i (exact: 12 leaves 2 rows at least, `table-ok`; so below)
 abbrev pub lastSum : ℕ → List ℕ → ℕ
 lastSum h p = sumAt h p (rowsIn p - 1)
 
@@ -44,7 +44,7 @@ lastDischarge p = discharge p (rowsIn p - 1)
 unfoldable pub lower : ℕ → List ℕ → ℕ → ℕ
 lower h p x = scan (λ i. ltb (sumAt h p (i + 1)) x) (rowsIn p - 2) 0
 
--- the straight line through (x0, y0) and (x1, y1) at x, down
+-- the straight line through (x0, y0) and (x1, y1) at x, down (exact where x is at most the last X_i: `around`, `line-ok`)
 unfoldable pub between : ℕ → ℕ → ℕ → ℕ → ℕ → ℕ
 between x x0 x1 y0 y1 = y0 + (x - x0) * (y1 - y0) / (x1 - x0)
 
@@ -63,11 +63,11 @@ stageAt h p x = lineOn h p x (stage p) (lower h p x)
 abbrev pub empty : State
 empty = record { storage = 0; outflow = 0 }
 
--- X = S - h O + inflow volume
+-- X = S - h O + inflow volume (exact: `reach-ok` of rows; in an edit by what 17 leaves, `rows-ok` of rows)
 unfoldable pub arrived : ℕ → State → ℕ → ℕ
 arrived h st v = st .storage - h * st .outflow + v
 
--- the state at X: the new outflow is the discharge there, the new storage X - h times it
+-- the state at X: the new outflow is the discharge there, the new storage X - h times it (exact: `settled-sum`)
 unfoldable pub settled : ℕ → List ℕ → ℕ → State
 settled h p x = record { storage = x - h * dischargeAt h p x; outflow = dischargeAt h p x }
 
@@ -83,7 +83,7 @@ countGood p = eqb (length p % rowWidth) 0 && within 2 (rowsIn p) mostPondRows
 unfoldable pub rowWithin : List ℕ → ℕ → Bool
 rowWithin p i = leb (stage p i) 1000000 && (leb (storage p i) 1000000000000 && leb (discharge p i) 10000000)
 
--- row i in order after row i - 1: stage and storage rise strictly, discharge never falls; the first storage and discharge are 0
+-- row i in order after row i - 1: stage and storage rise strictly, discharge never falls; the first storage and discharge are 0 (i - 1 is read only where i is not 0)
 unfoldable pub orderGood : List ℕ → ℕ → Bool
 orderGood p i =
     pick (eqb i 0)

@@ -1,4 +1,4 @@
--- Document 01, 'Refusal numbers and their order': a refusal has a number and a place, and the first of an order decides. The rule of natural subtraction, here and in every crate: `-` stops at 0; where a definition subtracts, the law named beside it says that it never does.
+-- Document 01, 'Refusal numbers and their order': a refusal has a number and a place, and the first of an order decides.
 use mathlib.Core.Path.{_≡_}
 use mathlib.Core.Bool.{Bool}
 use mathlib.Core.List.{List, [], _∷_, _++_}

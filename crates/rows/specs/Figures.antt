@@ -20,7 +20,7 @@ maxTo f (suc n) = max (maxTo f n) (f n)
 abbrev pub at : List ℕ → ℕ → ℕ
 at l i = getD l i 0
 
--- the outflow before row i, from the outflow o before row 0
+-- the outflow before row i, from the outflow o before row 0 (i - 1 is read only where i is not 0)
 abbrev pub before : ℕ → List ℕ → ℕ → ℕ
 before o os i = pick (eqb i 0) o (at os (i - 1))
 
@@ -46,7 +46,7 @@ keptTo h p o os ss n =
       stage = maxTo (rowStage h p os ss) n;
     }
 
--- figures of standing rows: total inflow, last storage, and those
+-- figures of standing rows: total inflow, last storage, and those (length ss - 1 is exact: 1 leaves 1 row at least, `frame-ok` of checks)
 unfoldable pub figuresOf : ℕ → List ℕ → List ℕ → List ℕ → List ℕ → RowFigures
 figuresOf h p vs os ss =
     record {

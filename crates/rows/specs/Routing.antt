@@ -48,6 +48,6 @@ unfoldable pub waterReleased : ℕ → List ℕ → State → List ℕ → ℕ
 waterReleased h p st [] = 0
 waterReleased h p st (v ∷ vs) = h * (st .outflow + next h p st v .outflow) + waterReleased h p (next h p st v) vs
 
--- the state before row a (from 0), as the rows have it
+-- the state before row a (from 0), as the rows have it (a - 1 is read only where a is not 0)
 unfoldable pub stateBefore : List ℕ → List ℕ → ℕ → State
 stateBefore os ss a = pick (eqb a 0) empty (record { storage = getD ss (a - 1) 0; outflow = getD os (a - 1) 0 })

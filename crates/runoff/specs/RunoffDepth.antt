@@ -8,11 +8,11 @@ use Rattle.laws.specs.Pick.{pick}
 abbrev pub noRunoff : ℕ → ℕ → Bool
 noRunoff C p = leb (C * p + 2000 * C) 200000
 
--- N = C p + 2000 C - 200000, where it is above 0
+-- N = C p + 2000 C - 200000, read only where it is above 0 (`depth-some`, `depth-none`)
 abbrev pub N : ℕ → ℕ → ℕ
 N C p = C * p + 2000 * C - 200000
 
--- M = C p + 800000 - 8000 C
+-- M = C p + 800000 - 8000 C (exact: C is at most 98, `composite-ok` of curve)
 abbrev pub M : ℕ → ℕ → ℕ
 M C p = C * p + 800000 - 8000 * C
 
