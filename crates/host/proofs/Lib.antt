@@ -8,3 +8,5 @@ pub mod Walking
 pub mod OneSaid
 pub mod RecordAnswers
 pub mod Answers
+pub mod RecordEdits
+pub mod HostEdits
