@@ -19,7 +19,7 @@ use Rattle.answers.specs.StudyNumbers.{studyNumbersOf}
 use Rattle.answers.proofs.Beside.{first-twelve, same-number}
 use Rattle.host.specs.declared.records.Subarea.{Subarea}
 use Rattle.host.specs.Flattened.{recordOf, putIn}
-use Rattle.host.specs.HostEdits.{Writes, HostEditIsStudy, recordsSite, RecordsEditIsStudy}
+use Rattle.host.specs.HostEdits.{EditBesideStudy, HostEditIsStudy, recordsSite, RecordsEditIsStudy}
 use Rattle.host.proofs.Handing.{record-length}
 use Rattle.host.proofs.RecordEdits.{put-in-flat, records-in-flat}
 
@@ -29,9 +29,9 @@ host-edit-is-study {x} {l} so k lo hi r w =
     let same = edit-is-study so k lo hi r w in
     let a = editAnswer x l k r in
     record {
-      number = same-number a ∙ ap (λ (z : StudyAnswer). studyRefusalIn z .number) (same .answers);
-      numbers = first-twelve a ∙ ap studyNumbersOf (same .answers);
-      rows = same .rows;
+      returned = same-number a ∙ ap (λ (z : StudyAnswer). studyRefusalIn z .number) (same .answers);
+      first-twelve = first-twelve a ∙ ap studyNumbersOf (same .answers);
+      left = same .rows;
     }
 
 module _ (g : Setup) (rain : List ℕ) (ss : List Subarea) (p : List ℕ) (l : Rows) (so : Standing (recordsSite g rain ss p) l) (k : ℕ) (lo : 1 ≤ k) (hi : k ≤ length ss) (n : Subarea) where
@@ -47,7 +47,7 @@ module _ (g : Setup) (rain : List ℕ) (ss : List Subarea) (p : List ℕ) (l : R
 
   -- a list of records
   pub records-edit-is-study : RecordsEditIsStudy g rain ss p l k n
-  records-edit-is-study = subst (λ (y : Site). Writes here l k (recordOf n) y) put-in-site (host-edit-is-study so k lo listed (recordOf n) (record-length n))
+  records-edit-is-study = subst (λ (y : Site). EditBesideStudy here l k (recordOf n) y) put-in-site (host-edit-is-study so k lo listed (recordOf n) (record-length n))
 
   -- the rows of a done edit stand on the site of the list with n in place k, so that the next edit is lent that list
   pub records-stand : (e : Edited) → editAnswer here l k (recordOf n) ≡ Done e → Standing (recordsSite g rain (putIn ss k n) p) (editRows here l k (recordOf n))

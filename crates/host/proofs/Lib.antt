@@ -10,3 +10,4 @@ pub mod RecordAnswers
 pub mod Answers
 pub mod RecordEdits
 pub mod HostEdits
+pub mod HostCalls

@@ -13,16 +13,22 @@ use Rattle.answers.specs.EditNumbers.{editNumbersOf}
 use Rattle.host.specs.declared.records.Subarea.{Subarea}
 use Rattle.host.specs.Flattened.{recordOf, flatOf, putIn}
 
--- an edit of site x, with record r in place k, gives and leaves what a study of site y does, lent the same rows l, refused or done:
--- the number that it returns, the first twelve of the thirteen numbers that it writes, and the three row lists
-pub record Writes (x : Site) (l : Rows) (k : ℕ) (r : List ℕ) (y : Site) : Type 0 where
-  pub number : editRefusalIn (editAnswer x l k r) .number ≡ studyRefusalIn (studyAnswer y l) .number
-  pub numbers : take 12 (editNumbersOf (editAnswer x l k r)) ≡ studyNumbersOf (studyAnswer y l)
-  pub rows : editRows x l k r ≡ studyRows y l
+-- an edit beside a study, refused or done: the number that each returns; the thirteen numbers that the edit writes, of which the first twelve are the study's; and the three row lists that each leaves
+pub record SameToHost (number : ℕ) (numbers : List ℕ) (rows : Rows) (studyNumber : ℕ) (studyNumbers : List ℕ) (studyRows : Rows) : Type 0 where
+  pub returned : number ≡ studyNumber
+  pub first-twelve : take 12 numbers ≡ studyNumbers
+  pub left : rows ≡ studyRows
+
+-- an edit of site x with record r in place k, beside a study of site y, lent the same rows l
+abbrev pub EditBesideStudy : Site → Rows → ℕ → List ℕ → Site → Type 0
+EditBesideStudy x l k r y =
+    let a = editAnswer x l k r in
+    let b = studyAnswer y l in
+    SameToHost (editRefusalIn a .number) (editNumbersOf a) (editRows x l k r) (studyRefusalIn b .number) (studyNumbersOf b) (studyRows y l)
 
 -- a flat list: `bt_edit` beside `bt_study` of the altered list
 abbrev pub HostEditIsStudy : Site → Rows → ℕ → List ℕ → Type 0
-HostEditIsStudy x l k r = Writes x l k r (alteredSite x k r)
+HostEditIsStudy x l k r = EditBesideStudy x l k r (alteredSite x k r)
 
 -- a site whose subareas are a list of records
 abbrev pub recordsSite : Setup → List ℕ → List Subarea → List ℕ → Site
@@ -30,4 +36,4 @@ recordsSite g rain ss p = record { setup = g; rain = rain; subareas = flatOf ss;
 
 -- a list of records: `bt_edit_records`, lent record n as numbers, beside `bt_study_records` of the list with n in place k
 abbrev pub RecordsEditIsStudy : Setup → List ℕ → List Subarea → List ℕ → Rows → ℕ → Subarea → Type 0
-RecordsEditIsStudy g rain ss p l k n = Writes (recordsSite g rain ss p) l k (recordOf n) (recordsSite g rain (putIn ss k n) p)
+RecordsEditIsStudy g rain ss p l k n = EditBesideStudy (recordsSite g rain ss p) l k (recordOf n) (recordsSite g rain (putIn ss k n) p)
