@@ -8,3 +8,6 @@ pub mod Walking
 pub mod OneSaid
 pub mod RecordAnswers
 pub mod Answers
+pub mod RecordEdits
+pub mod HostEdits
+pub mod HostCalls

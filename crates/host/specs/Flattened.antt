@@ -1,7 +1,7 @@
 -- Document 01, 'What a study is made of': a list of records as one flat list of numbers.
 use mathlib.Core.List.{List, [], _∷_, _++_}
-use Prim.Native.Nat.{ℕ, zero, suc}
-use lib.ListN.{getD}
+use Prim.Native.Nat.{ℕ, zero, suc, _-_}
+use lib.ListN.{getD, take, drop}
 use Rattle.curve.specs.CurveNumbers.{mostPatches}
 use Rattle.travel.specs.TravelTime.{mostSegments}
 use denote.Ref.{now}
@@ -41,6 +41,10 @@ recordOf s = (s .«patch_count» ∷ patchesTo mostPatches (s .patches)) ++ (s .
 unfoldable pub flatOf : List Subarea → List ℕ
 flatOf [] = []
 flatOf (s ∷ ss) = recordOf s ++ flatOf ss
+
+-- the list with record n in place k, from 1
+abbrev pub putIn : List Subarea → ℕ → Subarea → List Subarea
+putIn ss k n = take (k - 1) ss ++ (n ∷ drop k ss)
 
 -- a site whose subareas are such a list
 abbrev pub listSite : Setup → Lent → List ℕ → Lent → Site
