@@ -72,7 +72,7 @@ tests-read g =
     (patches-read, (segments-read, (tt, (timed concentrationGood, (timed (peakGood (g .step)), (timed (weightsGood (g .step)), tt))))))
 
 module _ (s u : List ℕ) (same : SameRead s u) where
-  count-read : recordsIn s ≡ recordsIn u
+  pub count-read : recordsIn s ≡ recordsIn u
   count-read = ap (λ (n : ℕ). n / width) (same .long)
 
   -- a sum over the records, a scan of them
