@@ -3,7 +3,7 @@ use mathlib.Core.Path.{_≡_, refl, sym, ap, _∙_, subst}
 use mathlib.Core.Bool.{Bool, true, false}
 use mathlib.Core.Logic.{⊎-elim}
 use mathlib.Core.List.{List, [], _∷_, _++_}
-use Prim.Native.Nat.{ℕ, _+_, _-_, _≤_, _<_}
+use Prim.Native.Nat.{ℕ, _+_, _-_, _<_}
 use native.Mathlib.Omega.{arith}
 use borrow.Author.Tests.{eqb-true, eqb-false}
 use lib.Dec.{eqb}
@@ -12,7 +12,7 @@ use Rattle.laws.proofs.Scans.{scan-same}
 use Rattle.curve.specs.declared.Classes.{Classes}
 use Rattle.rows.specs.Figures.{at}
 use Rattle.refusals.specs.declared.Refusal.{Refusal}
-use Rattle.refusals.specs.Refusals.{unless, firstOf, firstRefusal, after, AllPass}
+use Rattle.refusals.specs.Refusals.{unless, firstOf, firstRefusal, after}
 use Rattle.refusals.proofs.Orders.{stops, all-pass, some-old}
 use Rattle.subarea.specs.Records.{halfOf, width, recordsIn, recordAt}
 use Rattle.subarea.specs.Needs.{SameRecord, SameRead}
@@ -20,16 +20,13 @@ use Rattle.checks.specs.Site.{Site, Rows}
 use Rattle.checks.specs.Order.{runLines, listLines, pondLines, forgedLine}
 use Rattle.study.specs.Study.{classesAll}
 use Rattle.study.specs.Needs.{withSubareas}
-use Rattle.study.proofs.Read.{part-read, count-read, lines-read, classes-read, run-read, refusal-read, study-rows-read}
+use Rattle.study.proofs.Read.{part-read, count-read, lines-read, classes-read, run-read}
 use Rattle.alter.specs.Altering.{altered, oldRecord, oldPart, freshPart, swapped, newInflowOf, placeGood}
 use Rattle.alter.specs.Needs.{PlaceOk}
 use Rattle.alter.proofs.Places.{same-or-not, altered-length, altered-here, altered-other}
 use Rattle.alter.proofs.Ready.{placeLines, place-ready}
 use Rattle.edit.specs.declared.EditAnswer.the-variants.{Refused, Done}
 use Rattle.edit.specs.Edit.{inflowFits, unfitOf, overFrom, rowLines, editRefusal, rerouted, newRows, editedOf, editDone, editAnswer, editRows}
-use Rattle.edit.specs.Standing.{Standing, Studied, EditIsStudy}
-use Rattle.edit.proofs.EditIsStudy.{chain}
-use Rattle.edit.proofs.Routed.{edit-of}
 
 -- the altered lists are again alike
 module _ (s u : List ℕ) (k : ℕ) (r q : List ℕ) (same : SameRead s u) (fresh : SameRecord r q) (whole : length q ≡ width) (ok : PlaceOk s k r) where
@@ -179,16 +176,3 @@ module _ (x : Site) (l : Rows) (k : ℕ) (u : List ℕ) (same : SameRead (x .sub
         go false e =
             let n = eqb-false (firstRefusal (placeLines x l k) .number) 0 e in
             (answer-refused n, left-refused n)
-
--- rows that stand on a site are a done study's of it, whatever a host writes behind the counts of its records
-pub standing-read : {x : Site} {l : Rows} → Standing x l → (u : List ℕ) → SameRead (x .subareas) u → Studied (withSubareas x u) l
-standing-read {x} {l} so u same =
-    record {
-      done = ap (λ (v : Refusal). v .number) (sym (refusal-read x l u same)) ∙ chain so .done;
-      rows = chain so .rows ∙ study-rows-read x l u same;
-    }
-
--- so demand 3 holds of that list too
-pub edit-is-study-read : {x : Site} {l : Rows} → Standing x l → (u : List ℕ) → SameRead (x .subareas) u
-    → (k : ℕ) → 1 ≤ k → k ≤ recordsIn u → (r : List ℕ) → length r ≡ width → EditIsStudy (withSubareas x u) l k r
-edit-is-study-read {x} {l} so u same k lo hi r w = edit-of (withSubareas x u) l (standing-read so u same) k r lo hi w

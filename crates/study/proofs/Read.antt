@@ -2,9 +2,8 @@
 use mathlib.Core.Path.{_≡_, refl, ap, _∙_}
 use mathlib.Core.Bool.{Bool, _&&_}
 use mathlib.Core.List.{List, [], _∷_, _++_, map}
-use Prim.Native.Nat.{ℕ, _/_, _<_}
+use Prim.Native.Nat.{ℕ, _/_}
 use native.Mathlib.Omega.{arith}
-use lib.ListN.{length}
 use Rattle.laws.specs.Scan.{scan}
 use Rattle.laws.specs.Sum.{sumTo}
 use Rattle.laws.specs.Within.{within}
@@ -23,10 +22,9 @@ use Rattle.subarea.specs.declared.Setup.{Setup}
 use Rattle.subarea.specs.Records.{halfOf, width, recordsIn, recordAt, patchCount, patches, segmentCount, segments, areaOf, curveOf, timeOf, peakOf, patchesPass, segmentsPass}
 use Rattle.subarea.specs.Needs.{SameRecord, SameRead}
 use Rattle.checks.specs.Site.{Site, Rows, asked}
-use Rattle.checks.specs.Order.{ListTest, each, total, allArea, overList, listTests, listLines, lastGood, recordsGood, frameLines, rainLines, runLines, pondLines}
+use Rattle.checks.specs.Order.{ListTest, each, total, overList, listTests, listLines, lastGood, recordsGood, frameLines, rainLines, runLines, pondLines}
 use Rattle.inflow.specs.Inflow.{partOf, inflowAt, inflowRows, inflowOf}
 use Rattle.inflow.proofs.Inflows.{rows-same}
-use Rattle.study.specs.declared.StudyAnswer.{StudyAnswer}
 use Rattle.study.specs.declared.StudyAnswer.the-variants.{Refused, Done}
 use Rattle.study.specs.Study.{classTotal, classesAll, figuresWith, figuresAll, routed, overCheck, studyRefusal, studyAnswer, studyRows}
 use Rattle.study.specs.Needs.{withSubareas}
