@@ -14,9 +14,12 @@ use Rattle.edit.specs.declared.EditAnswer.the-variants.{Refused, Done}
 use Rattle.edit.specs.Edit.{editAnswer, editRows}
 use Rattle.worked.specs.Lines.{twoRows}
 
--- a subarea of an area: one patch of cover code 4 on soil group A, and one segment of kind 3, 360 ft at 1 ft/s (Tc 360, Tp 216)
+-- a subarea of an area: one patch of cover code 4 on soil group A, and one segment of kind 3, 360 ft at 1 ft/s (Tc 360, Tp 216); and what stands behind them
+abbrev pub pavedBefore : ℕ → ℕ → List ℕ
+pavedBefore unread area = (1 ∷ 4 ∷ 1 ∷ area ∷ replicate 21 unread) ++ (1 ∷ 3 ∷ 360 ∷ 100 ∷ replicate 15 unread)
+
 abbrev pub paved : ℕ → List ℕ
-paved area = (1 ∷ 4 ∷ 1 ∷ area ∷ replicate 21 0) ++ (1 ∷ 3 ∷ 360 ∷ 100 ∷ replicate 15 0)
+paved area = pavedBefore 0 area
 
 -- D 60, 3 in of rain in one step, that subarea, and the pond of the worked lines
 abbrev pub siteOf : ℕ → Site
