@@ -30,7 +30,7 @@ in-front n a w s l most =
     ∙ take-take w (n - a) (drop a s) (omega arith)
 
 -- two numbers are the same, or not
-same-or-not : (a b : ℕ) → (a ≡ b) ⊎ (a ≡ b → ⊥)
+pub same-or-not : (a b : ℕ) → (a ≡ b) ⊎ (a ≡ b → ⊥)
 same-or-not a b = ⊎-elim (λ (l : a < b). inr (λ e. omega (arith, e, l))) (λ (l : b ≤ a). ⊎-elim (λ (e : b ≡ a). inl (sym e)) (λ (m : b < a). inr (λ e. omega (arith, e, m))) (eq-or-lt-of-le l)) (below-or-not a b)
 
 module _ (s : List ℕ) (k : ℕ) (r : List ℕ) (ok : PlaceOk s k r) where

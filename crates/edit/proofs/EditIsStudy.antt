@@ -25,9 +25,10 @@ use Rattle.inflow.proofs.Inflows.{rows-length}
 use Rattle.refusals.proofs.Orders.{none-new, both-pass}
 use Rattle.checks.proofs.Ready.{site-ok}
 use Rattle.study.proofs.Order.{study-passes, row-numbers, study-balance}
+use Rattle.study.proofs.Read.{refusal-read, study-rows-read}
 use Rattle.alter.specs.Altering.{alteredSite}
 use Rattle.checks.specs.Order.{lengthsGood}
-use Rattle.edit.specs.Standing.{studyIn, Standing, studied, edited, Studied, EditIsStudy}
+use Rattle.edit.specs.Standing.{studyIn, Standing, studied, edited, rewritten, Studied, EditIsStudy}
 use Rattle.edit.proofs.Routed.{edit-of}
 
 -- a done answer refuses nothing
@@ -67,13 +68,18 @@ again x l done =
     let same : studyRows x n ≡ n = left-are x n clear ∙ ap (λ (m : ℕ). routed (halfOf (x .setup)) (x .pond) (inflowRows (x .setup) (x .rain) (x .subareas) m)) long in
     subst (λ (z : Rows). Studied x z) (sym (left-are x l done)) (record { done = clear; rows = sym same })
 
--- chain: after any number of accepted edits the rows are a new study's of the site they stand on
+-- chain: after any number of accepted edits, and of rewritings of what is not read, the rows are a new study's of the site they stand on
 pub chain : {x : Site} {l : Rows} → Standing x l → Studied x l
 chain (studied x l f e) = again x l (study-done x l f e)
 chain (edited x l so k lo hi r w f e) =
     let new = alteredSite x k r in
     let same = edit-of x l (chain so) k r lo hi w in
     subst (λ (z : Rows). Studied new z) (sym (same .rows)) (again new l (study-done new l (f .figures) (sym (same .answers) ∙ ap studyIn e)))
+chain (rewritten x l so u same) =
+    record {
+      done = ap (λ (v : Refusal). v .number) (sym (refusal-read x l u same)) ∙ chain so .done;
+      rows = chain so .rows ∙ study-rows-read x l u same;
+    }
 
 module _ {x : Site} {l : Rows} (so : Standing x l) where
   -- edit-is-study: of rows that stand on a site, at any listed place and with any record, an edit answers and leaves what a study of the altered site does, lent the same rows: the same number and place where it is refused, the same rows and figures where it is done

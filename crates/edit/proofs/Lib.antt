@@ -1,6 +1,7 @@
 pub mod EditIsStudy
 pub mod Keeps
 pub mod Order
+pub mod Read
 pub mod Signs
 pub mod Changed
 pub mod Fitting

@@ -8,7 +8,9 @@ use Rattle.study.specs.declared.StudyAnswer.{StudyAnswer}
 use Rattle.study.specs.declared.StudyAnswer.the-variants as Study
 use Rattle.checks.specs.Site.{Site, Rows}
 use Rattle.subarea.specs.Records.{width, recordsIn}
+use Rattle.subarea.specs.Needs.{SameRead}
 use Rattle.study.specs.Study.{studyRefusal, studyAnswer, studyRows}
+use Rattle.study.specs.Needs.{withSubareas}
 use Rattle.alter.specs.Altering.{alteredSite}
 use Rattle.edit.specs.declared.Edited.{Edited}
 use Rattle.edit.specs.declared.EditAnswer.{EditAnswer}
@@ -20,11 +22,12 @@ abbrev pub studyIn : EditAnswer → StudyAnswer
 studyIn (Refused v) = Study.Refused v
 studyIn (Done e) = Study.Done (e .figures)
 
--- rows l stand on the site x: a done study of x left them, or a done edit of rows standing on a site, at a listed place, left them and x is that site altered
+-- rows l stand on the site x: a done study of x left them; or a done edit of rows standing on a site, at a listed place, left them and x is that site altered; or they stand on a site of whose subareas the same is read (a host may rewrite what stands behind a record's counts)
 pub data Standing : Site → Rows → Type 0 where
   studied : (x : Site) (l : Rows) (f : Figures) → studyAnswer x l ≡ Study.Done f → Standing x (studyRows x l)
   edited : (x : Site) (l : Rows) → Standing x l → (k : ℕ) → 1 ≤ k → k ≤ recordsIn (x .subareas) → (r : List ℕ) → length r ≡ width
       → (e : Edited) → editAnswer x l k r ≡ Done e → Standing (alteredSite x k r) (editRows x l k r)
+  rewritten : (x : Site) (l : Rows) → Standing x l → (u : List ℕ) → SameRead (x .subareas) u → Standing (withSubareas x u) l
 
 -- rows that are those of a done study of the site: a study that is lent them leaves them as they are
 pub record Studied (x : Site) (l : Rows) : Type 0 where

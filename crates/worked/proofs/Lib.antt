@@ -1,1 +1,2 @@
 pub mod FiguresToCheck
+pub mod Witness

@@ -1,0 +1,70 @@
+-- The witness holds, by computation; so there are rows that stand after a study, after an edit and after a rewriting, and the balance and the chain are of them. Assumes nothing.
+use mathlib.Core.Path.{_≡_, refl, subst}
+use Prim.Native.Nat.{ℕ, zero, suc, _+_, _<_}
+use native.Mathlib.Omega.{arith}
+use Rattle.laws.specs.Scan.{scan}
+use Rattle.laws.specs.Sum.{sumTo}
+use Rattle.laws.specs.Flat.{flatGood}
+use Rattle.curve.specs.CurveNumbers.{coverTable, coverNumber, classOf, totalArea, weighted, nearest, composite, patchWithin, patchesGood}
+use Rattle.runoff.specs.RunoffDepth.{depth}
+use Rattle.travel.specs.TravelTime.{segmentTime, concentration, timeToPeak, segmentWithin, segmentsGood}
+use Rattle.hydrograph.specs.InflowRows.{shape, time, ratio, lineAt, onLine, weight, totalWeight, runoffAt, depthReleased, volumeOf, part, concentrationGood, peakGood, weightsGood}
+use Rattle.pond.specs.PondRows.{sumAt, lower, between, dischargeAt, stageAt, arrived, settled, countGood, rowWithin, orderGood}
+use Rattle.rows.specs.Routing.{states, passed, overRow, stateBefore}
+use Rattle.rows.specs.Figures.{at, releaseAt, maxTo, peakRow, keptTo, figuresOf, standsWithin}
+use Rattle.refusals.specs.Refusals.{firstAfter}
+use Rattle.subarea.specs.Records.{recordAt, patchesPass, segmentsPass}
+use Rattle.subarea.specs.Needs.{SameRecord, SameRead}
+use Rattle.checks.specs.Site.{Rows}
+use Rattle.checks.specs.Order.{lengthsGood, stepGood, entriesGood, lastGood, recordsGood}
+use Rattle.inflow.specs.Inflow.{rowsFrom}
+use Rattle.study.specs.Study.{overCheck, studyRefusal, studyAnswer, studyRows}
+use Rattle.study.specs.Needs.{withSubareas}
+use Rattle.alter.specs.Altering.{swapped, firstChanged, placeGood}
+use Rattle.edit.specs.Edit.{inflowFits, overFrom, editRefusal, editedOf, editAnswer, editRows}
+use Rattle.edit.specs.Standing.{Standing, studied, edited, rewritten, Studied}
+use Rattle.edit.proofs.EditIsStudy.{chain, standing-balance}
+use Rattle.worked.specs.Witness.{pavedBefore, paved, siteOf, lent, small, large, smallFigures, enlarged, Witness}
+
+pub witness : Witness
+unfolding scan sumTo flatGood coverTable coverNumber classOf totalArea weighted nearest composite patchWithin patchesGood depth segmentTime concentration timeToPeak segmentWithin segmentsGood shape time ratio lineAt onLine weight totalWeight runoffAt depthReleased volumeOf part concentrationGood peakGood weightsGood sumAt lower between dischargeAt stageAt arrived settled countGood rowWithin orderGood states passed overRow stateBefore maxTo peakRow keptTo figuresOf standsWithin firstAfter patchesPass segmentsPass lengthsGood stepGood entriesGood lastGood recordsGood rowsFrom overCheck studyRefusal studyAnswer studyRows swapped firstChanged placeGood inflowFits overFrom editRefusal editedOf editAnswer editRows
+witness =
+    record {
+      study-answers = refl;
+      study-leaves = refl;
+      edit-answers = refl;
+      edit-leaves = refl;
+      no-area = refl;
+      no-area-leaves = refl;
+      too-large = refl;
+      too-large-leaves = refl;
+    }
+
+-- rows that stand: after the study, and after the edit
+pub stands : Standing (siteOf 1) small
+stands =
+    subst (λ (l : Rows). Standing (siteOf 1) l) (witness .study-leaves) (studied (siteOf 1) lent smallFigures (witness .study-answers))
+
+pub stands-edited : Standing (siteOf 2) large
+stands-edited =
+    subst (λ (l : Rows). Standing (siteOf 2) l) (witness .edit-leaves)
+    (edited (siteOf 1) small stands 1 (omega arith) (omega arith) (paved 2) refl enlarged (witness .edit-answers))
+
+-- and after a host has put 9 for every number that is not read
+unread : SameRead (paved 2) (pavedBefore 9 2)
+unread = record { long = refl; each = only }
+  where
+    only : (i : ℕ) → i < 1 → SameRecord (recordAt (paved 2) i) (recordAt (pavedBefore 9 2) i)
+    only zero h = record { patch-count = refl; patched = refl; segment-count = refl; routed = refl }
+    only (suc i) h = absurd (omega arith)
+
+pub stands-rewritten : Standing (withSubareas (siteOf 2) (pavedBefore 9 2)) large
+stands-rewritten = rewritten (siteOf 2) large stands-edited (pavedBefore 9 2) unread
+
+-- the chain of them: a study of area 2 leaves the same rows
+pub chained : Studied (withSubareas (siteOf 2) (pavedBefore 9 2)) large
+chained = chain stands-rewritten
+
+-- the balance of them: 7101 in, 5331 stored and 1770 released
+pub balanced : sumTo (at (large .inflow)) 1 ≡ at (large .storage) 0 + sumTo (releaseAt 30 0 (large .outflow)) 1
+balanced = standing-balance stands-rewritten 0 (omega arith)

@@ -1,0 +1,69 @@
+-- A witness that the definitions are of something: one small study that is done, one edit of its rows that is done, and two that are refused.
+use mathlib.Core.Path.{_≡_}
+use mathlib.Core.List.{List, [], _∷_, _++_}
+use Prim.Native.Nat.{ℕ}
+use lib.IntN.{pos}
+use lib.ListN.{replicate}
+use Rattle.refusals.specs.Refusals.{refuse}
+use Rattle.checks.specs.Site.{Site, Rows}
+use Rattle.study.specs.declared.Figures.{Figures}
+use Rattle.study.specs.declared.StudyAnswer.the-variants as Study
+use Rattle.study.specs.Study.{studyAnswer, studyRows}
+use Rattle.edit.specs.declared.Edited.{Edited}
+use Rattle.edit.specs.declared.EditAnswer.the-variants.{Refused, Done}
+use Rattle.edit.specs.Edit.{editAnswer, editRows}
+use Rattle.worked.specs.Lines.{twoRows}
+
+-- a subarea of an area: one patch of cover code 4 on soil group A, and one segment of kind 3, 360 ft at 1 ft/s (Tc 360, Tp 216); and what stands behind them
+abbrev pub pavedBefore : ℕ → ℕ → List ℕ
+pavedBefore unread area = (1 ∷ 4 ∷ 1 ∷ area ∷ replicate 21 unread) ++ (1 ∷ 3 ∷ 360 ∷ 100 ∷ replicate 15 unread)
+
+abbrev pub paved : ℕ → List ℕ
+paved area = pavedBefore 0 area
+
+-- D 60, 3 in of rain in one step, that subarea, and the pond of the worked lines
+abbrev pub siteOf : ℕ → Site
+siteOf area =
+    record {
+      setup = record { step = 60; first = 1 };
+      rain = 0 ∷ 3000 ∷ [];
+      subareas = paved area;
+      pond = twoRows;
+    }
+
+-- one row: inflow, outflow, storage
+abbrev pub oneRow : ℕ → ℕ → ℕ → Rows
+oneRow v o s = record { inflow = v ∷ []; outflow = o ∷ []; storage = s ∷ [] }
+
+-- the rows lent, those of area 1, and those of area 2
+abbrev pub lent : Rows
+lent = oneRow 0 0 0
+
+abbrev pub small : Rows
+small = oneRow 3550 29 2680
+
+abbrev pub large : Rows
+large = oneRow 7101 59 5331
+
+-- their figures, and what the edit from the one to the other tells
+abbrev pub smallFigures : Figures
+smallFigures =
+    record { inflow = 3550; released = 870; storage = 2680; peak = 29; row = 1; stage = 295; surfaces = 1; districts = 0; lots = 0; rural = 0 }
+
+abbrev pub largeFigures : Figures
+largeFigures =
+    record { inflow = 7101; released = 1770; storage = 5331; peak = 59; row = 1; stage = 591; surfaces = 2; districts = 0; lots = 0; rural = 0 }
+
+abbrev pub enlarged : Edited
+enlarged = record { figures = largeFigures; changed = 1; peak = pos 30; released = pos 900 }
+
+-- a study of area 1 is done; an edit of its rows to area 2 is done; to area 0 it is refused with 6, to area 4 with 14, and the rows stay
+pub record Witness : Type 0 where
+  pub study-answers : studyAnswer (siteOf 1) lent ≡ Study.Done smallFigures
+  pub study-leaves : studyRows (siteOf 1) lent ≡ small
+  pub edit-answers : editAnswer (siteOf 1) small 1 (paved 2) ≡ Done enlarged
+  pub edit-leaves : editRows (siteOf 1) small 1 (paved 2) ≡ large
+  pub no-area : editAnswer (siteOf 1) small 1 (paved 0) ≡ Refused (refuse 6 1)
+  pub no-area-leaves : editRows (siteOf 1) small 1 (paved 0) ≡ small
+  pub too-large : editAnswer (siteOf 1) small 1 (paved 4) ≡ Refused (refuse 14 1)
+  pub too-large-leaves : editRows (siteOf 1) small 1 (paved 4) ≡ small
