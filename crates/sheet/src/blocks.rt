@@ -10,11 +10,11 @@ use reading::room::TRIPLE;
 use study::Figures;
 use subarea::Setup;
 ghost use mathlib.Core.Path.{_≡_};
-ghost use Prim.Native.Nat.{_/_, _≤_};
+ghost use Prim.Native.Nat.{_+_, _-_, _/_, _≤_, _<_};
 ghost use lib.ListN.{length};
 ghost use Rattle.pond.specs.Needs.{PondOk};
 ghost use Rattle.subarea.specs.Records.{width};
-ghost use Rattle.sheet.specs.Bounds.{AsMany};
+ghost use Rattle.sheet.specs.Bounds.{AsMany, Numbered};
 
 const LEAST_HALF: u64 = limits::LEAST_STEP / 2;
 
@@ -131,6 +131,14 @@ fn stage(pond: &[u64], half: u64, outflow: u64, storage: u64) -> u64
     pond::stage_at_sum(pond, half, storage + half * outflow)
 }
 
+// The number of row k, which counts from 1. It is below 2 to the power of 53, as the engine's own.
+fn row_number(first: u64, k: u64) -> u64
+    requires { ⌜ (1 ≤ k) × Numbered first k ⌝ }
+    ensures { λ r. ⌜ (r ≡ first + k - 1) × (r < 9007199254740992) ⌝ }
+{
+    first + (k - 1)
+}
+
 fn row_line(number: u64, seconds: u64, inflow: u64, outflow: u64, storage: u64, stage: u64) {
     texts::sheet(
         texts::ROW,
@@ -140,13 +148,15 @@ fn row_line(number: u64, seconds: u64, inflow: u64, outflow: u64, storage: u64, 
 
 fn row_lines(setup: Setup, pond: &[u64], inflow: &[u64], outflow: &[u64], storage: &[u64])
     requires { ⌜ PondOk (setup .step / 2) (now pond) × AsMany (now inflow) (now outflow) (now storage) ⌝ }
+    requires { ⌜ Numbered (setup .first) (length (now inflow)) ⌝ }
 {
     let half = setup.step / 2;
     let mut k = 0;
     while k < inflow.len() {
         let stage = stage(pond, half, outflow[k], storage[k]);
-        let number = std::num::wrapping_add_u64(setup.first, k as u64);
-        let seconds = (k as u64 + 1) * setup.step;
+        let row = k as u64 + 1;
+        let number = row_number(setup.first, row);
+        let seconds = row * setup.step;
         row_line(number, seconds, inflow[k], outflow[k], storage[k], stage);
         k += 1;
     }
@@ -155,6 +165,7 @@ fn row_lines(setup: Setup, pond: &[u64], inflow: &[u64], outflow: &[u64], storag
 // A study that was not refused passes these tests, which are the engine's own.
 pub(crate) fn rows(setup: Setup, pond: &[u64], inflow: &[u64], outflow: &[u64], storage: &[u64])
     requires { ⌜ AsMany (now inflow) (now outflow) (now storage) ⌝ }
+    requires { ⌜ Numbered (setup .first) (length (now inflow)) ⌝ }
 {
     let half = setup.step / 2;
     let n = pond.len() / TRIPLE;
@@ -177,12 +188,9 @@ pub(crate) fn rows(setup: Setup, pond: &[u64], inflow: &[u64], outflow: &[u64], 
     row_lines(setup, pond, inflow, outflow, storage);
 }
 
-// The number of row k in the sheet.
-fn row_number(first: u64, k: u64) -> u64 {
-    std::num::wrapping_sub_u64(std::num::wrapping_add_u64(first, k), 1)
-}
-
-pub(crate) fn figures(first: u64, f: Figures) {
+pub(crate) fn figures(first: u64, f: Figures)
+    requires { ⌜ (1 ≤ f .row) × Numbered first (f .row) ⌝ }
+{
     let row = row_number(first, f.row);
     texts::sheet(
         texts::FIGURES,

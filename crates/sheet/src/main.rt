@@ -11,8 +11,9 @@ use reading::room::SUBAREAS_ROOM;
 use study::StudyAnswer;
 use subarea::Setup;
 ghost use Prim.Native.Nat.{_≤_};
+ghost use lib.ListN.{length};
 ghost use Rattle.reading.specs.Bounds.{rowsRoom};
-ghost use Rattle.sheet.specs.Bounds.{AsMany};
+ghost use Rattle.sheet.specs.Bounds.{AsMany, Told};
 
 // Runs the study in lists of its rows, and prints its sheet or why it is refused.
 fn worked(
@@ -50,6 +51,7 @@ fn answered(
     storage: &[u64],
 )
     requires { ⌜ AsMany (now inflow) (now outflow) (now storage) ⌝ }
+    requires { ⌜ Told (setup .first) (length (now inflow)) answer ⌝ }
 {
     match answer {
         StudyAnswer::Refused(r) => faults::refused(r),

@@ -26,7 +26,8 @@ row-lines-requires : tie.Need-row-lines-requires
 row-lines-requires c κs =
     let tested = c .before .before .before in
     let held = pond-ok (halved tested) (tabled tested) (sym (c .before .before .first-short .ensures) ∙ c .before .if5 .left) in
-    (held, c .before .before .before .before .before .before .before .before .before .before .before .before .before .before .pre)
+    let s = c .before .before .before .before .before .before .before .before .before .before .before .before .before .before in
+    ((held, s .pre .0), s .pre .1)
 
 pub rows-spec : {M : Type 1} → statement M
 rows-spec =
