@@ -1,0 +1,139 @@
+// A whole study of a list of numbers: the site's own, through every check and every row.
+use crate::Four;
+use crate::NONE;
+use crate::two;
+use study::Figures;
+use study::StudyAnswer;
+use subarea::Setup;
+ghost use Prim.Native.Nat.{_≤_};
+
+// The most rows that a list of numbers asks here.
+const ROOM: usize = 400;
+
+// What stands before the lists: the step, the first row's number in millions and what is over, the rows, the rain entries, the
+// numbers of the subareas.
+const BEFORE: usize = 6;
+
+// The greatest inflow row, and which it is.
+fn greatest(rows: &[u64], total: u64) -> Four {
+    let mut most = 0;
+    let mut row = 0;
+    let mut i = 0;
+    while i < rows.len() {
+        let volume = rows[i];
+        i += 1;
+        if volume > most {
+            most = volume;
+            row = i as u64;
+        }
+    }
+    Four {
+        a: most,
+        b: row,
+        c: total,
+        d: NONE,
+    }
+}
+
+// Of a study that is done: no refusal; its first figures; or its greatest inflow row and total inflow.
+fn done(told: u8, f: Figures, inflow: &[u64]) -> Four {
+    match told {
+        b'S' => two(0, 0),
+        b'I' => greatest(inflow, f.inflow),
+        _ => Four {
+            a: f.inflow,
+            b: f.released,
+            c: f.storage,
+            d: f.peak,
+        },
+    }
+}
+
+fn given(told: u8, answer: StudyAnswer, inflow: &[u64]) -> Four {
+    match answer {
+        StudyAnswer::Refused(r) => refused(told, r.number, r.place),
+        StudyAnswer::Done(f) => done(told, f, inflow),
+    }
+}
+
+// A refusal's number and place; where figures are asked there are none.
+fn refused(told: u8, number: u64, place: u64) -> Four {
+    if told == b'S' {
+        two(number, place)
+    } else {
+        two(NONE, number)
+    }
+}
+
+fn worked(
+    told: u8,
+    setup: Setup,
+    rain: &[u64],
+    subareas: &[u64],
+    pond: &[u64],
+    inflow: &mut [u64],
+    outflow: &mut [u64],
+    storage: &mut [u64],
+) -> Four {
+    let answer = study::run(setup, rain, subareas, pond, inflow, outflow, storage);
+    given(told, answer, inflow)
+}
+
+fn lent(told: u8, setup: Setup, m: usize, rain: &[u64], subareas: &[u64], pond: &[u64]) -> Four
+    requires { ⌜ m ≤ 400 ⌝ }
+{
+    let mut inflow = [0u64; ROOM];
+    let mut outflow = [0u64; ROOM];
+    let mut storage = [0u64; ROOM];
+    worked(
+        told,
+        setup,
+        rain,
+        subareas,
+        pond,
+        &mut inflow[0..m],
+        &mut outflow[0..m],
+        &mut storage[0..m],
+    )
+}
+
+// A row number is above NONE: it is told in millions and what is over.
+fn laid(told: u8, n: &[u64], m: usize, rain: usize, subareas: usize) -> Four
+    requires { ⌜ m ≤ 400 ⌝ }
+    requires { ⌜ rain ≤ 2048 ⌝ }
+    requires { ⌜ subareas ≤ 2048 ⌝ }
+{
+    let a = BEFORE + rain;
+    let e = a + subareas;
+    if e > n.len() {
+        return two(NONE, NONE);
+    }
+    if n[1] > 10000000000 {
+        return two(NONE, NONE);
+    }
+    if n[2] > 999999 {
+        return two(NONE, NONE);
+    }
+    let setup = Setup {
+        step: n[0],
+        first: n[1] * 1000000 + n[2],
+    };
+    lent(told, setup, m, &n[BEFORE..a], &n[a..e], &n[e..])
+}
+
+// Rain, subareas and pond stand behind each other; the pond is all that is left.
+pub(crate) fn run(told: u8, n: &[u64]) -> Four {
+    if n.len() < BEFORE {
+        return two(NONE, NONE);
+    }
+    if n[3] > 400 {
+        return two(NONE, NONE);
+    }
+    if n[4] > 2048 {
+        return two(NONE, NONE);
+    }
+    if n[5] > 2048 {
+        return two(NONE, NONE);
+    }
+    laid(told, n, n[3] as usize, n[4] as usize, n[5] as usize)
+}
