@@ -67,6 +67,6 @@ pub(crate) fn say(k: u64) {
         whether the engine's rounds to it. Expected figures are made by tools/expect, in exact numbers from document 01: none\n\
         is the engine's. 000 to 004 are the source manuals. Recalled: written down from memory, and no source here prints it,\n\
         so that to agree with it shows little; what is expected holds all the same. The rain of a peak is recalled too.\n\
-        Study refusal, inflow row, inflow released: of a whole study, from the lent lists to its rows.\n";
+        Study: a whole one was run, from the lent lists to its rows.\n";
     say::bytes(text::piece(all, k, b'|'));
 }

@@ -10,11 +10,14 @@ ghost use Prim.Native.Nat.{_≤_};
 // The most rows that a list of numbers asks here.
 const ROOM: usize = 400;
 
+// More than a list of numbers has.
+const MOST: u64 = 2048;
+
 // What stands before the lists: the step, the first row's number in millions and what is over, the rows, the rain entries, the
 // numbers of the subareas.
 const BEFORE: usize = 6;
 
-// The greatest inflow row, and which it is.
+// The greatest inflow row, the first that has it, and the total inflow.
 fn greatest(rows: &[u64], total: u64) -> Four {
     let mut most = 0;
     let mut row = 0;
@@ -49,19 +52,19 @@ fn done(told: u8, f: Figures, inflow: &[u64]) -> Four {
     }
 }
 
-fn given(told: u8, answer: StudyAnswer, inflow: &[u64]) -> Four {
-    match answer {
-        StudyAnswer::Refused(r) => refused(told, r.number, r.place),
-        StudyAnswer::Done(f) => done(told, f, inflow),
-    }
-}
-
 // A refusal's number and place; where figures are asked there are none.
 fn refused(told: u8, number: u64, place: u64) -> Four {
     if told == b'S' {
         two(number, place)
     } else {
         two(NONE, number)
+    }
+}
+
+fn given(told: u8, answer: StudyAnswer, inflow: &[u64]) -> Four {
+    match answer {
+        StudyAnswer::Refused(r) => refused(told, r.number, r.place),
+        StudyAnswer::Done(f) => done(told, f, inflow),
     }
 }
 
@@ -126,13 +129,13 @@ pub(crate) fn run(told: u8, n: &[u64]) -> Four {
     if n.len() < BEFORE {
         return two(NONE, NONE);
     }
-    if n[3] > 400 {
+    if n[3] > ROOM as u64 {
         return two(NONE, NONE);
     }
-    if n[4] > 2048 {
+    if n[4] > MOST {
         return two(NONE, NONE);
     }
-    if n[5] > 2048 {
+    if n[5] > MOST {
         return two(NONE, NONE);
     }
     laid(told, n, n[3] as usize, n[4] as usize, n[5] as usize)
