@@ -6,6 +6,7 @@ use study::Figures;
 use study::StudyAnswer;
 use subarea::Setup;
 ghost use Prim.Native.Nat.{_≤_};
+ghost use lib.ListN.{length};
 
 // The most rows that a list of numbers asks here.
 const ROOM: usize = 400;
@@ -68,22 +69,34 @@ fn given(told: u8, answer: StudyAnswer, inflow: &[u64]) -> Four {
     }
 }
 
+// Rain, subareas and pond stand behind each other in n; the subareas from a on, the pond from e on.
 fn worked(
     told: u8,
     setup: Setup,
-    rain: &[u64],
-    subareas: &[u64],
-    pond: &[u64],
+    n: &[u64],
+    a: usize,
+    e: usize,
     inflow: &mut [u64],
     outflow: &mut [u64],
     storage: &mut [u64],
-) -> Four {
-    let answer = study::run(setup, rain, subareas, pond, inflow, outflow, storage);
+) -> Four
+    requires { ⌜ (6 ≤ a) × ((a ≤ e) × (e ≤ length (now n))) ⌝ }
+{
+    let answer = study::run(
+        setup,
+        &n[BEFORE..a],
+        &n[a..e],
+        &n[e..],
+        inflow,
+        outflow,
+        storage,
+    );
     given(told, answer, inflow)
 }
 
-fn lent(told: u8, setup: Setup, m: usize, rain: &[u64], subareas: &[u64], pond: &[u64]) -> Four
+fn lent(told: u8, setup: Setup, m: usize, n: &[u64], a: usize, e: usize) -> Four
     requires { ⌜ m ≤ 400 ⌝ }
+    requires { ⌜ (6 ≤ a) × ((a ≤ e) × (e ≤ length (now n))) ⌝ }
 {
     let mut inflow = [0u64; ROOM];
     let mut outflow = [0u64; ROOM];
@@ -91,9 +104,9 @@ fn lent(told: u8, setup: Setup, m: usize, rain: &[u64], subareas: &[u64], pond: 
     worked(
         told,
         setup,
-        rain,
-        subareas,
-        pond,
+        n,
+        a,
+        e,
         &mut inflow[0..m],
         &mut outflow[0..m],
         &mut storage[0..m],
@@ -101,32 +114,14 @@ fn lent(told: u8, setup: Setup, m: usize, rain: &[u64], subareas: &[u64], pond: 
 }
 
 // A row number is above NONE: it is told in millions and what is over.
-fn laid(told: u8, n: &[u64], m: usize, rain: usize, subareas: usize) -> Four
-    requires { ⌜ m ≤ 400 ⌝ }
-    requires { ⌜ rain ≤ 2048 ⌝ }
-    requires { ⌜ subareas ≤ 2048 ⌝ }
-{
-    let a = BEFORE + rain;
-    let e = a + subareas;
-    if e > n.len() {
+pub(crate) fn run(told: u8, n: &[u64]) -> Four {
+    if n.len() < BEFORE {
         return two(NONE, NONE);
     }
     if n[1] > 10000000000 {
         return two(NONE, NONE);
     }
     if n[2] > 999999 {
-        return two(NONE, NONE);
-    }
-    let setup = Setup {
-        step: n[0],
-        first: n[1] * 1000000 + n[2],
-    };
-    lent(told, setup, m, &n[BEFORE..a], &n[a..e], &n[e..])
-}
-
-// Rain, subareas and pond stand behind each other; the pond is all that is left.
-pub(crate) fn run(told: u8, n: &[u64]) -> Four {
-    if n.len() < BEFORE {
         return two(NONE, NONE);
     }
     if n[3] > ROOM as u64 {
@@ -138,5 +133,14 @@ pub(crate) fn run(told: u8, n: &[u64]) -> Four {
     if n[5] > MOST {
         return two(NONE, NONE);
     }
-    laid(told, n, n[3] as usize, n[4] as usize, n[5] as usize)
+    let a = BEFORE + n[4] as usize;
+    let e = a + n[5] as usize;
+    if e > n.len() {
+        return two(NONE, NONE);
+    }
+    let setup = Setup {
+        step: n[0],
+        first: n[1] * 1000000 + n[2],
+    };
+    lent(told, setup, n[3] as usize, n, a, e)
 }
