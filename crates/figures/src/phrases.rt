@@ -41,6 +41,8 @@ pub(crate) const NO_FILE: u64 = 17;
 
 pub(crate) const IN_PRINT: u64 = 18;
 
+pub(crate) const HEAD: u64 = 19;
+
 pub(crate) fn say(k: u64) {
     let all = b", as expected\
         |, WRONG: should be \
@@ -60,6 +62,11 @@ pub(crate) fn say(k: u64) {
         |; do not agree: \
         |.. and more\
         | cannot be read, or not as a whole: \
-        |; printed: ";
+        |; printed: \
+        |A line has the engine's figures, whether they are the expected ones, and, where a source prints a figure, that one and\n\
+        whether the engine's rounds to it. Expected figures are made by tools/expect, in exact numbers from document 01: none\n\
+        is the engine's. 000 to 004 are the source manuals. Recalled: written down from memory, and no source here prints it,\n\
+        so that to agree with it shows little; what is expected holds all the same. The rain of a peak is recalled too.\n\
+        Study: a whole one was run, from the lent lists to its rows.\n";
     say::bytes(text::piece(all, k, b'|'));
 }

@@ -78,7 +78,7 @@ pub(crate) fn row(word: &[u8], line: &[u8]) -> Verdict {
     if function == b'n' {
         return verdict::not_run(field(line, 8), field(line, 4));
     }
-    let mut n = [0u64; 96];
+    let mut n = [0u64; 512];
     let k = text::list(field(line, 8), &mut n);
     judged(line, guarded::given_by(function, &n[..k]))
 }

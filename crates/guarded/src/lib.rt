@@ -1,5 +1,6 @@
 // The engine's functions by a letter, behind their limits: NONE where the numbers are out of them.
 mod ponds;
+mod studies;
 
 // Above every limit of the engine.
 pub const NONE: u64 = 1000000000000000;
@@ -200,25 +201,6 @@ fn last(f: Four) -> Four {
     one(f.d)
 }
 
-// The first of refusals 1 to 5 that one row meets. Its number is above NONE: it is told in millions and what is over.
-fn over_limit(millions: u64, over: u64) -> u64 {
-    if millions > 10000000000 {
-        return NONE;
-    }
-    if over > 999999 {
-        return NONE;
-    }
-    let setup = subarea::Setup {
-        step: STEP,
-        first: millions * 1000000 + over,
-    };
-    let rain = [0u64; 2];
-    let subareas = [0u64; subarea::WIDTH];
-    let row = [0u64; 1];
-    let v = checks::run_checks(setup, &rain, &subareas, &row, &row, &row);
-    v.number
-}
-
 // The function that a letter names, on a list of numbers.
 pub fn given_by(function: u8, n: &[u64]) -> Four {
     match function {
@@ -235,8 +217,9 @@ pub fn given_by(function: u8, n: &[u64]) -> Four {
         b'X' => one(ponds::sum(n)),
         b'r' => ponds::routed(n),
         b'x' => last(ponds::routed(n)),
-        b'l' => one(ponds::refusal(ponds::routed(n))),
-        b'o' => one(over_limit(at(n, 0), at(n, 1))),
+        b'S' => studies::run(function, n),
+        b'I' => studies::run(function, n),
+        b'F' => studies::run(function, n),
         _ => one(NONE),
     }
 }

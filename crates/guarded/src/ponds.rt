@@ -113,8 +113,3 @@ pub(crate) fn routed(n: &[u64]) -> Four {
     }
     last_row(pond, half, inflow)
 }
-
-// The refusal alone, 0 for none.
-pub(crate) fn refusal(f: Four) -> u64 {
-    if f.a < NONE { 0 } else { f.b }
-}

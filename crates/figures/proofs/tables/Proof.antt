@@ -5,10 +5,10 @@ use Rattle.figures.proofs.tables.Statement.{statement}
 use Rattle.figures.proofs.tables.Tie as tie
 
 abbrev Inv-loop : tie.InvT-loop
-Inv-loop words files names₀ t₀ table₀ names t table = table ≤ 14
+Inv-loop words files names₀ t₀ table₀ names t table = table ≤ 17
 
 abbrev μ-loop : tie.MeasureT-loop
-μ-loop words files names₀ t₀ table₀ names t table = 14 - table
+μ-loop words files names₀ t₀ table₀ names t table = 17 - table
 
 pub tables-spec : {M : Type 1} → statement M
 tables-spec =
