@@ -13,6 +13,10 @@ pub record Site : Type 0 where
   pub subareas : List ℕ
   pub pond : List ℕ
 
+-- a site with another list of subareas
+abbrev pub withSubareas : Site → List ℕ → Site
+withSubareas x u = record { setup = x .setup; rain = x .rain; subareas = u; pond = x .pond }
+
 -- the three row lists
 pub record Rows : Type 0 where
   pub inflow : List ℕ

@@ -20,14 +20,13 @@ use Rattle.checks.specs.Site.{Site, Rows}
 use Rattle.subarea.specs.Records.{width, recordsIn, halfOf}
 use Rattle.inflow.specs.Inflow.{inflowAt, inflowRows, inflowOf}
 use Rattle.study.specs.Study.{overOf, studyRefusal, studyAnswer, studyRows, studyFigures, routed}
-use Rattle.checks.specs.Order.{checkLines}
+use Rattle.checks.specs.Order.{checkLines, lengthsGood}
 use Rattle.inflow.proofs.Inflows.{rows-length}
 use Rattle.refusals.proofs.Orders.{none-new, both-pass}
 use Rattle.checks.proofs.Ready.{site-ok}
 use Rattle.study.proofs.Order.{study-passes, row-numbers, study-balance}
 use Rattle.study.proofs.Read.{refusal-read, study-rows-read}
 use Rattle.alter.specs.Altering.{alteredSite}
-use Rattle.checks.specs.Order.{lengthsGood}
 use Rattle.edit.specs.Standing.{studyIn, Standing, studied, edited, rewritten, Studied, EditIsStudy}
 use Rattle.edit.proofs.Routed.{edit-of}
 

@@ -14,12 +14,10 @@ use Rattle.rows.specs.Figures.{at}
 use Rattle.refusals.specs.declared.Refusal.{Refusal}
 use Rattle.refusals.specs.Refusals.{unless, firstOf, firstRefusal, after}
 use Rattle.refusals.proofs.Orders.{stops, all-pass, some-old}
-use Rattle.subarea.specs.Records.{halfOf, width, recordsIn, recordAt}
-use Rattle.subarea.specs.Needs.{SameRecord, SameRead}
-use Rattle.checks.specs.Site.{Site, Rows}
+use Rattle.subarea.specs.Records.{halfOf, width, recordsIn, recordAt, SameRecord, SameRead}
+use Rattle.checks.specs.Site.{Site, Rows, withSubareas}
 use Rattle.checks.specs.Order.{runLines, listLines, pondLines, forgedLine}
 use Rattle.study.specs.Study.{classesAll}
-use Rattle.study.specs.Needs.{withSubareas}
 use Rattle.study.proofs.Read.{part-read, count-read, lines-read, classes-read, run-read}
 use Rattle.alter.specs.Altering.{altered, oldRecord, oldPart, freshPart, swapped, newInflowOf, placeGood}
 use Rattle.alter.specs.Needs.{PlaceOk}

@@ -23,11 +23,11 @@ use Rattle.study.specs.declared.StudyAnswer.the-variants as Study
 use Rattle.checks.specs.Site.{Site, Rows}
 use Rattle.subarea.specs.Records.{width, recordsIn, halfOf}
 use Rattle.refusals.specs.Refusals.{refuse, none, unless, firstRefusal, after, AllPass}
-use Rattle.checks.specs.Order.{recordsGood, runLines, listLines, pondLines, checkLines}
+use Rattle.checks.specs.Order.{recordsGood, runLines, listLines, pondLines, checkLines, forgedLine}
 use Rattle.study.specs.Study.{overCheck, overOf, studyRefusal, studyAnswer, studyRows, classesAll, figuresWith, figuresAll, routed}
 use Rattle.inflow.specs.Inflow.{inflowAt, inflowOf}
 use Rattle.checks.specs.Needs.{SiteOk}
-use Rattle.refusals.proofs.Orders.{both-pass, none-new}
+use Rattle.refusals.proofs.Orders.{both-pass, none-new, past, skipped}
 use Rattle.inflow.proofs.Inflows.{rows-length}
 use Rattle.checks.proofs.Ready.{site-ok}
 use Rattle.study.proofs.Order.{study-passes}
@@ -37,8 +37,6 @@ use Rattle.alter.proofs.Places.{altered-length}
 use Rattle.alter.proofs.Swapping.{new-is}
 use Rattle.edit.specs.declared.EditAnswer.the-variants.{Refused, Done}
 use Rattle.laws.specs.Limits.{mostRows}
-use Rattle.checks.specs.Order.{forgedLine}
-use Rattle.refusals.proofs.Orders.{past, skipped}
 use Rattle.edit.specs.Edit.{unfitOf, overFrom, editRefusal, rerouted, newRows, figuresIn, editedOf, editDone, editAnswer, editRows}
 use Rattle.edit.specs.Standing.{studyIn, Studied, EditIsStudy}
 use Rattle.edit.proofs.Changed.{rows-equal, changed-most, changed-front}

@@ -6,11 +6,9 @@ use lib.ListN.{length, take}
 use Rattle.study.specs.declared.Figures.{Figures}
 use Rattle.study.specs.declared.StudyAnswer.{StudyAnswer}
 use Rattle.study.specs.declared.StudyAnswer.the-variants as Study
-use Rattle.checks.specs.Site.{Site, Rows}
-use Rattle.subarea.specs.Records.{width, recordsIn}
-use Rattle.subarea.specs.Needs.{SameRead}
+use Rattle.checks.specs.Site.{Site, Rows, withSubareas}
+use Rattle.subarea.specs.Records.{width, recordsIn, SameRead}
 use Rattle.study.specs.Study.{studyRefusal, studyAnswer, studyRows}
-use Rattle.study.specs.Needs.{withSubareas}
 use Rattle.alter.specs.Altering.{alteredSite}
 use Rattle.edit.specs.declared.Edited.{Edited}
 use Rattle.edit.specs.declared.EditAnswer.{EditAnswer}

@@ -15,10 +15,10 @@ pub record AsMany (inflow outflow storage : List ℕ) : Type 0 where
   pub storages : length storage ≡ length inflow
 
 -- the first k rows, from number `first` on, have numbers of at most 9,007,199,254,740,991
-abbrev pub Numbered : ℕ → ℕ → Type 0
-Numbered first k = first + k ≤ lastNumber + 1
+abbrev pub RowsNumbered : ℕ → ℕ → Type 0
+RowsNumbered first k = first + k ≤ lastNumber + 1
 
 -- what a done study leaves: all m rows have their numbers, and the peak's row is one of them
 abbrev pub Told : ℕ → ℕ → StudyAnswer → Type 0
 Told first m (Refused v) = Unit {0}
-Told first m (Done f) = Numbered first m × ((1 ≤ f .row) × (f .row ≤ m))
+Told first m (Done f) = RowsNumbered first m × ((1 ≤ f .row) × (f .row ≤ m))

@@ -14,7 +14,7 @@ ghost use Prim.Native.Nat.{_+_, _-_, _/_, _≤_, _<_};
 ghost use lib.ListN.{length};
 ghost use Rattle.pond.specs.Needs.{PondOk};
 ghost use Rattle.subarea.specs.Records.{width};
-ghost use Rattle.sheet.specs.Bounds.{AsMany, Numbered};
+ghost use Rattle.sheet.specs.Bounds.{AsMany, RowsNumbered};
 
 const LEAST_HALF: u64 = limits::LEAST_STEP / 2;
 
@@ -133,7 +133,7 @@ fn stage(pond: &[u64], half: u64, outflow: u64, storage: u64) -> u64
 
 // The number of row k, which counts from 1. It is below 2 to the power of 53, as the engine's own.
 fn row_number(first: u64, k: u64) -> u64
-    requires { ⌜ (1 ≤ k) × Numbered first k ⌝ }
+    requires { ⌜ (1 ≤ k) × RowsNumbered first k ⌝ }
     ensures { λ r. ⌜ (r ≡ first + k - 1) × (r < 9007199254740992) ⌝ }
 {
     first + (k - 1)
@@ -148,7 +148,7 @@ fn row_line(number: u64, seconds: u64, inflow: u64, outflow: u64, storage: u64, 
 
 fn row_lines(setup: Setup, pond: &[u64], inflow: &[u64], outflow: &[u64], storage: &[u64])
     requires { ⌜ PondOk (setup .step / 2) (now pond) × AsMany (now inflow) (now outflow) (now storage) ⌝ }
-    requires { ⌜ Numbered (setup .first) (length (now inflow)) ⌝ }
+    requires { ⌜ RowsNumbered (setup .first) (length (now inflow)) ⌝ }
 {
     let half = setup.step / 2;
     let mut k = 0;
@@ -165,7 +165,7 @@ fn row_lines(setup: Setup, pond: &[u64], inflow: &[u64], outflow: &[u64], storag
 // A study that was not refused passes these tests, which are the engine's own.
 pub(crate) fn rows(setup: Setup, pond: &[u64], inflow: &[u64], outflow: &[u64], storage: &[u64])
     requires { ⌜ AsMany (now inflow) (now outflow) (now storage) ⌝ }
-    requires { ⌜ Numbered (setup .first) (length (now inflow)) ⌝ }
+    requires { ⌜ RowsNumbered (setup .first) (length (now inflow)) ⌝ }
 {
     let half = setup.step / 2;
     let n = pond.len() / TRIPLE;
@@ -189,7 +189,7 @@ pub(crate) fn rows(setup: Setup, pond: &[u64], inflow: &[u64], outflow: &[u64], 
 }
 
 pub(crate) fn figures(first: u64, f: Figures)
-    requires { ⌜ (1 ≤ f .row) × Numbered first (f .row) ⌝ }
+    requires { ⌜ (1 ≤ f .row) × RowsNumbered first (f .row) ⌝ }
 {
     let row = row_number(first, f.row);
     texts::sheet(

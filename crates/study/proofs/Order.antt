@@ -14,11 +14,10 @@ use Rattle.rows.specs.Figures.{at, releaseAt}
 use Rattle.rows.proofs.Reached.{balance}
 use Rattle.rows.proofs.Told.{over-none}
 use Rattle.checks.specs.Needs.{SiteOk}
-use Rattle.refusals.specs.Refusals.{passes}
+use Rattle.refusals.specs.Refusals.{passes, refuse, none, AllPass, First}
 use Rattle.study.specs.declared.StudyAnswer.{StudyAnswer}
 use Rattle.study.specs.declared.StudyAnswer.the-variants.{Refused, Done}
 use Rattle.checks.specs.Site.{Site, Rows, asked}
-use Rattle.refusals.specs.Refusals.{refuse, none, AllPass, First}
 use Rattle.study.specs.Study.{overCheck, overOf, studyLines, studyRefusal, studyAnswer, studyRows, studyFigures, studyRefusalIn, studyValues, studyValuesIn, noFigures}
 use Rattle.checks.specs.Order.{checkLines}
 use Rattle.inflow.specs.Inflow.{inflowAt, inflowOf}

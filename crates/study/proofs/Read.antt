@@ -19,15 +19,13 @@ use Rattle.rows.specs.Figures.{figuresOf}
 use Rattle.refusals.specs.declared.Refusal.{Refusal}
 use Rattle.refusals.specs.Refusals.{unless, firstOf, firstRefusal, after}
 use Rattle.subarea.specs.declared.Setup.{Setup}
-use Rattle.subarea.specs.Records.{halfOf, width, recordsIn, recordAt, patchCount, patches, segmentCount, segments, areaOf, curveOf, timeOf, peakOf, patchesPass, segmentsPass}
-use Rattle.subarea.specs.Needs.{SameRecord, SameRead}
-use Rattle.checks.specs.Site.{Site, Rows, asked}
+use Rattle.subarea.specs.Records.{halfOf, width, recordsIn, recordAt, patchCount, patches, segmentCount, segments, areaOf, curveOf, timeOf, peakOf, patchesPass, segmentsPass, SameRecord, SameRead}
+use Rattle.checks.specs.Site.{Site, Rows, asked, withSubareas}
 use Rattle.checks.specs.Order.{ListTest, each, total, overList, listTests, listLines, lastGood, recordsGood, frameLines, rainLines, runLines, pondLines}
 use Rattle.inflow.specs.Inflow.{partOf, inflowAt, inflowRows, inflowOf}
 use Rattle.inflow.proofs.Inflows.{rows-same}
 use Rattle.study.specs.declared.StudyAnswer.the-variants.{Refused, Done}
 use Rattle.study.specs.Study.{classTotal, classesAll, figuresWith, figuresAll, routed, overCheck, studyRefusal, studyAnswer, studyRows}
-use Rattle.study.specs.Needs.{withSubareas}
 
 -- what is told of a record depends only on what is read of it
 module _ (r q : List ℕ) (same : SameRecord r q) where

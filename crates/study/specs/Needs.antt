@@ -29,10 +29,6 @@ decidedAnswer x l = overAnswer (halfOf (x .setup)) (x .subareas) (x .pond) (infl
 abbrev pub decidedRows : Site → Rows → Rows
 decidedRows x l = after (overOf x l) (routed (halfOf (x .setup)) (x .pond) (inflowOf x l)) l
 
--- a site with another list of subareas
-abbrev pub withSubareas : Site → List ℕ → Site
-withSubareas x u = record { setup = x .setup; rain = x .rain; subareas = u; pond = x .pond }
-
 -- class areas that leave room for one subarea more
 pub record ClassesOk (c : Classes) : Type 0 where
   pub surfaces-most : c .surfaces ≤ 100000000

@@ -5,7 +5,7 @@ use mathlib.Core.List.{List}
 use Prim.Native.Nat.{ℕ, _*_, _≤_, _<_}
 use lib.ListN.{length}
 use Rattle.laws.specs.Limits.{mostSubareas}
-use Rattle.subarea.specs.Records.{width, recordsIn, recordAt, patchCount, patches, segmentCount, segments, patchesPass, segmentsPass}
+use Rattle.subarea.specs.Records.{width, recordsIn, recordAt, patchesPass, segmentsPass}
 
 -- what 5 leaves: whole records, 1 to 16
 pub record RecordsOk (s : List ℕ) : Type 0 where
@@ -19,15 +19,3 @@ pub record AllPatches (s : List ℕ) : Type 0 where
 
 pub record AllSegments (s : List ℕ) : Type 0 where
   pub each : (i : ℕ) → i < recordsIn s → segmentsPass (recordAt s i) ≡ true
-
--- two records of which the same is read: their counts, and what stands within them
-pub record SameRecord (r q : List ℕ) : Type 0 where
-  pub patch-count : patchCount r ≡ patchCount q
-  pub patched : patches r ≡ patches q
-  pub segment-count : segmentCount r ≡ segmentCount q
-  pub routed : segments r ≡ segments q
-
--- two lists of subareas of which the same is read
-pub record SameRead (s u : List ℕ) : Type 0 where
-  pub long : length s ≡ length u
-  pub each : (i : ℕ) → i < recordsIn s → SameRecord (recordAt s i) (recordAt u i)

@@ -1,7 +1,8 @@
 -- Document 01, 'What a study is made of': the subareas as one flat list of records, and the numbers of a record that the rules use. Records count from 0 here, places from 1.
+use mathlib.Core.Path.{_≡_}
 use mathlib.Core.Bool.{Bool, _&&_}
 use mathlib.Core.List.{List}
-use Prim.Native.Nat.{ℕ, _*_, _/_}
+use Prim.Native.Nat.{ℕ, _*_, _/_, _<_}
 use lib.ListN.{length, getD, take, drop}
 use Rattle.laws.specs.Within.{within}
 use Rattle.curve.specs.CurveNumbers.{patchWidth, mostPatches, totalArea, composite, patchesGood}
@@ -66,3 +67,15 @@ patchesPass r = within 1 (patchCount r) mostPatches && patchesGood (patches r)
 -- refusal 7: segment count and segments within their limits
 unfoldable pub segmentsPass : List ℕ → Bool
 segmentsPass r = within 1 (segmentCount r) mostSegments && segmentsGood (segments r)
+
+-- two records of which the same is read: their counts, and what stands within them
+pub record SameRecord (r q : List ℕ) : Type 0 where
+  pub patch-count : patchCount r ≡ patchCount q
+  pub patched : patches r ≡ patches q
+  pub segment-count : segmentCount r ≡ segmentCount q
+  pub routed : segments r ≡ segments q
+
+-- two lists of subareas of which the same is read
+pub record SameRead (s u : List ℕ) : Type 0 where
+  pub long : length s ≡ length u
+  pub each : (i : ℕ) → i < recordsIn s → SameRecord (recordAt s i) (recordAt u i)

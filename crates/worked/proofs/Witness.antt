@@ -13,18 +13,16 @@ use Rattle.pond.specs.PondRows.{sumAt, lower, between, dischargeAt, stageAt, ar
 use Rattle.rows.specs.Routing.{states, passed, overRow, stateBefore}
 use Rattle.rows.specs.Figures.{at, releaseAt, maxTo, peakRow, keptTo, figuresOf, standsWithin}
 use Rattle.refusals.specs.Refusals.{firstAfter}
-use Rattle.subarea.specs.Records.{recordAt, patchesPass, segmentsPass}
-use Rattle.subarea.specs.Needs.{SameRecord, SameRead}
-use Rattle.checks.specs.Site.{Rows}
+use Rattle.subarea.specs.Records.{recordAt, patchesPass, segmentsPass, SameRecord, SameRead}
+use Rattle.checks.specs.Site.{Rows, withSubareas}
 use Rattle.checks.specs.Order.{lengthsGood, stepGood, entriesGood, lastGood, recordsGood}
 use Rattle.inflow.specs.Inflow.{rowsFrom}
 use Rattle.study.specs.Study.{overCheck, studyRefusal, studyAnswer, studyRows}
-use Rattle.study.specs.Needs.{withSubareas}
 use Rattle.alter.specs.Altering.{swapped, firstChanged, placeGood}
 use Rattle.edit.specs.Edit.{inflowFits, overFrom, editRefusal, editedOf, editAnswer, editRows}
 use Rattle.edit.specs.Standing.{Standing, studied, edited, rewritten, Studied}
 use Rattle.edit.proofs.EditIsStudy.{chain, standing-balance}
-use Rattle.worked.specs.Witness.{pavedBefore, paved, siteOf, lent, small, large, smallFigures, enlarged, Witness}
+use Rattle.worked.specs.Witness.{parkingBefore, parking, siteOf, lent, small, large, smallFigures, enlarged, Witness}
 
 pub witness : Witness
 unfolding scan sumTo flatGood coverTable coverNumber classOf totalArea weighted nearest composite patchWithin patchesGood depth segmentTime concentration timeToPeak segmentWithin segmentsGood shape time ratio lineAt onLine weight totalWeight runoffAt depthReleased volumeOf part concentrationGood peakGood weightsGood sumAt lower between dischargeAt stageAt arrived settled countGood rowWithin orderGood states passed overRow stateBefore maxTo peakRow keptTo figuresOf standsWithin firstAfter patchesPass segmentsPass lengthsGood stepGood entriesGood lastGood recordsGood rowsFrom overCheck studyRefusal studyAnswer studyRows swapped firstChanged placeGood inflowFits overFrom editRefusal editedOf editAnswer editRows
@@ -48,21 +46,21 @@ stands =
 pub stands-edited : Standing (siteOf 2) large
 stands-edited =
     subst (λ (l : Rows). Standing (siteOf 2) l) (witness .edit-leaves)
-    (edited (siteOf 1) small stands 1 (omega arith) (omega arith) (paved 2) refl enlarged (witness .edit-answers))
+    (edited (siteOf 1) small stands 1 (omega arith) (omega arith) (parking 2) refl enlarged (witness .edit-answers))
 
 -- and after a host has put 9 for every number that is not read
-unread : SameRead (paved 2) (pavedBefore 9 2)
+unread : SameRead (parking 2) (parkingBefore 9 2)
 unread = record { long = refl; each = only }
   where
-    only : (i : ℕ) → i < 1 → SameRecord (recordAt (paved 2) i) (recordAt (pavedBefore 9 2) i)
+    only : (i : ℕ) → i < 1 → SameRecord (recordAt (parking 2) i) (recordAt (parkingBefore 9 2) i)
     only zero h = record { patch-count = refl; patched = refl; segment-count = refl; routed = refl }
     only (suc i) h = absurd (omega arith)
 
-pub stands-rewritten : Standing (withSubareas (siteOf 2) (pavedBefore 9 2)) large
-stands-rewritten = rewritten (siteOf 2) large stands-edited (pavedBefore 9 2) unread
+pub stands-rewritten : Standing (withSubareas (siteOf 2) (parkingBefore 9 2)) large
+stands-rewritten = rewritten (siteOf 2) large stands-edited (parkingBefore 9 2) unread
 
 -- the chain of them: a study of area 2 leaves the same rows
-pub chained : Studied (withSubareas (siteOf 2) (pavedBefore 9 2)) large
+pub chained : Studied (withSubareas (siteOf 2) (parkingBefore 9 2)) large
 chained = chain stands-rewritten
 
 -- the balance of them: 7101 in, 5331 stored and 1770 released

@@ -15,11 +15,11 @@ use Rattle.edit.specs.Edit.{editAnswer, editRows}
 use Rattle.worked.specs.Lines.{twoRows}
 
 -- a subarea of an area: one patch of cover code 4 on soil group A, and one segment of kind 3, 360 ft at 1 ft/s (Tc 360, Tp 216); and what stands behind them
-abbrev pub pavedBefore : ℕ → ℕ → List ℕ
-pavedBefore unread area = (1 ∷ 4 ∷ 1 ∷ area ∷ replicate 21 unread) ++ (1 ∷ 3 ∷ 360 ∷ 100 ∷ replicate 15 unread)
+abbrev pub parkingBefore : ℕ → ℕ → List ℕ
+parkingBefore unread area = (1 ∷ 4 ∷ 1 ∷ area ∷ replicate 21 unread) ++ (1 ∷ 3 ∷ 360 ∷ 100 ∷ replicate 15 unread)
 
-abbrev pub paved : ℕ → List ℕ
-paved area = pavedBefore 0 area
+abbrev pub parking : ℕ → List ℕ
+parking area = parkingBefore 0 area
 
 -- D 60, 3 in of rain in one step, that subarea, and the pond of the worked lines
 abbrev pub siteOf : ℕ → Site
@@ -27,7 +27,7 @@ siteOf area =
     record {
       setup = record { step = 60; first = 1 };
       rain = 0 ∷ 3000 ∷ [];
-      subareas = paved area;
+      subareas = parking area;
       pond = twoRows;
     }
 
@@ -61,9 +61,9 @@ enlarged = record { figures = largeFigures; changed = 1; peak = pos 30; released
 pub record Witness : Type 0 where
   pub study-answers : studyAnswer (siteOf 1) lent ≡ Study.Done smallFigures
   pub study-leaves : studyRows (siteOf 1) lent ≡ small
-  pub edit-answers : editAnswer (siteOf 1) small 1 (paved 2) ≡ Done enlarged
-  pub edit-leaves : editRows (siteOf 1) small 1 (paved 2) ≡ large
-  pub no-area : editAnswer (siteOf 1) small 1 (paved 0) ≡ Refused (refuse 6 1)
-  pub no-area-leaves : editRows (siteOf 1) small 1 (paved 0) ≡ small
-  pub too-large : editAnswer (siteOf 1) small 1 (paved 4) ≡ Refused (refuse 14 1)
-  pub too-large-leaves : editRows (siteOf 1) small 1 (paved 4) ≡ small
+  pub edit-answers : editAnswer (siteOf 1) small 1 (parking 2) ≡ Done enlarged
+  pub edit-leaves : editRows (siteOf 1) small 1 (parking 2) ≡ large
+  pub no-area : editAnswer (siteOf 1) small 1 (parking 0) ≡ Refused (refuse 6 1)
+  pub no-area-leaves : editRows (siteOf 1) small 1 (parking 0) ≡ small
+  pub too-large : editAnswer (siteOf 1) small 1 (parking 4) ≡ Refused (refuse 14 1)
+  pub too-large-leaves : editRows (siteOf 1) small 1 (parking 4) ≡ small
