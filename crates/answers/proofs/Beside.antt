@@ -1,6 +1,5 @@
 -- An edit's numbers beside a study's: the first twelve are those of the study's answer that stands beside the edit's. Assumes nothing.
 use mathlib.Core.Path.{_≡_, refl}
-use Prim.Native.Nat.{ℕ}
 use lib.ListN.{take}
 use Rattle.study.specs.Study.{studyRefusalIn}
 use Rattle.edit.specs.declared.EditAnswer.{EditAnswer}

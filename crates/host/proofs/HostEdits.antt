@@ -1,5 +1,5 @@
 -- Demand 3 as a host has it: of rows that stand on a site, and at a listed place, an edit gives and leaves what a study of the altered list does. Assumes nothing.
-use mathlib.Core.Path.{_≡_, sym, ap, _∙_, subst}
+use mathlib.Core.Path.{_≡_, ap, _∙_, subst}
 use mathlib.Core.List.{List}
 use Prim.Native.Nat.{ℕ, _≤_}
 use native.Mathlib.Omega.{arith}
