@@ -1,4 +1,5 @@
 // The engine's functions by a letter, behind their limits: NONE where the numbers are out of them.
+mod bursts;
 mod ponds;
 mod studies;
 
@@ -214,6 +215,7 @@ pub fn given_by(function: u8, n: &[u64]) -> Four {
         b't' => timing(at(n, 0), at(n, 1)),
         b'w' => one(weight(at(n, 0), at(n, 1), at(n, 2))),
         b'v' => volumes(n),
+        b'h' => one(bursts::sum(n)),
         b'X' => one(ponds::sum(n)),
         b'r' => ponds::routed(n),
         b'x' => last(ponds::routed(n)),

@@ -4,6 +4,8 @@ use denote.Ref.{now}
 use Rattle.laws.proofs.OneAnswer.{OneAnswer, OneAnswerAnd, same}
 use Rattle.hydrograph.proofs.weight.Kinds as weight-kinds
 use Rattle.hydrograph.proofs.weight.Reads as weight-reads
+use Rattle.hydrograph.proofs.dot.Kinds as dot-kinds
+use Rattle.hydrograph.proofs.dot.Reads as dot-reads
 use Rattle.hydrograph.proofs.volume.Kinds as volume-kinds
 use Rattle.hydrograph.proofs.volume.Reads as volume-reads
 use Rattle.hydrograph.proofs.concentration_good.Kinds as concentration-good-kinds
@@ -17,6 +19,9 @@ use Rattle.hydrograph.proofs.add_parts.Reads as add-parts-reads
 
 pub weight-one : OneAnswer weight-kinds.ps weight-kinds.r weight-reads.Post
 weight-one κs a x y s t p q = same p q
+
+pub dot-one : OneAnswer dot-kinds.ps dot-kinds.r dot-reads.Post
+dot-one κs a x y s t p q = same p q
 
 pub volume-one : OneAnswer volume-kinds.ps volume-kinds.r volume-reads.Post
 volume-one κs a x y s t p q = same p q

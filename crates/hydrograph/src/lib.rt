@@ -14,7 +14,7 @@ ghost use Rattle.hydrograph.specs.Needs.{product, plus, LineOk, TimingOk
 ghost use Rattle.laws.specs.Limits.{mostRows, mostStep, mostArea, mostWeights};
 
 // A depth for each row, and the one before the first.
-const ENTRIES: usize = limits::MOST_ROWS + 1;
+pub const ENTRIES: usize = limits::MOST_ROWS + 1;
 
 // The shape's ratios, in thousandths of the peak; narrow, since the table is laid on the stack where it is read.
 const RATIOS: [u16; 33] = [
@@ -172,7 +172,12 @@ fn fill_depths(curve: u64, rain: &[u64], rows: usize, list: &mut [u32; ENTRIES])
 }
 
 // The first n weights, each times the depth as many places before k, summed.
-fn dot(weights: &[u32; limits::MOST_WEIGHTS], depths: &[u32; ENTRIES], k: usize, n: usize) -> u64
+pub fn dot(
+    weights: &[u32; limits::MOST_WEIGHTS],
+    depths: &[u32; ENTRIES],
+    k: usize,
+    n: usize,
+) -> u64
     requires { ⌜ (n ≤ mostWeights) × ((n ≤ k) × ((k ≤ mostRows) × (Below (now weights) n 1000000 × Below (now depths) (k + 1) mostDepth))) ⌝ }
     ensures { λ r. ⌜ r ≡ sumTo (product (now (weights .entry)) (now (depths .entry)) k) n ⌝ }
 {
