@@ -14,7 +14,7 @@ const MOST_WEIGHT: u64 = 1000000;
 const MOST_DEPTH: u64 = 30000000;
 
 // Number i, or 0 behind the last.
-fn or_none(numbers: &[u64], i: usize) -> u64 {
+fn or_zero(numbers: &[u64], i: usize) -> u64 {
     if i < numbers.len() { numbers[i] } else { 0 }
 }
 
@@ -25,7 +25,7 @@ fn laid(numbers: &[u64], count: usize, most: u64, list: &mut [u32]) -> bool
 {
     let mut i = 0;
     while i < count {
-        let own = or_none(numbers, i);
+        let own = or_zero(numbers, i);
         if own > most {
             return false;
         }

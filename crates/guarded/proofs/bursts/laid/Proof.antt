@@ -36,7 +36,7 @@ again : tie.Need-loop-again Inv-loop μ-loop
 again c =
     let s = c .before .before .before .before .before .before in
     let l = c .before .before .before .loop in
-    (simp length-set (l .inv .0), (omega arith, below-more (l .i) (s .args .most) (l .list) (c .before .or-none .result) (omega (arith, s .pre .0, l .inv .0)) (l .inv .1 .1) (omega arith)))
+    (simp length-set (l .inv .0), (omega arith, below-more (l .i) (s .args .most) (l .list) (c .before .or-zero .result) (omega (arith, s .pre .0, l .inv .0)) (l .inv .1 .1) (omega arith)))
 
 returns-2 : tie.Need-returns-2 Inv-loop μ-loop
 returns-2 c e =
