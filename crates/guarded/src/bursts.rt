@@ -6,7 +6,7 @@ ghost use mathlib.Core.Path.{_≡_};
 ghost use Prim.Native.Nat.{_≤_};
 ghost use lib.ListN.{length};
 ghost use Rattle.laws.specs.Limits.{mostWeights};
-ghost use Rattle.hydrograph.specs.Needs.{Below};
+ghost use Rattle.hydrograph.specs.Needs.{Below, mostDepth};
 
 // The most that a weight is, in millionths of the peak, and a depth, in millionths of an inch.
 const MOST_WEIGHT: u64 = 1000000;
@@ -20,7 +20,7 @@ fn or_zero(numbers: &[u64], i: usize) -> u64 {
 
 // Puts the first numbers into a list, 0 for those that are not there; whether none of them is above the most.
 fn laid(numbers: &[u64], count: usize, most: u64, list: &mut [u32]) -> bool
-    requires { ⌜ (count ≤ length (now list)) × (most ≤ 30000000) ⌝ }
+    requires { ⌜ (count ≤ length (now list)) × (most ≤ mostDepth) ⌝ }
     ensures { λ r. ⌜ (r ≡ true → Below (now (list .exit)) count most) ⌝ }
 {
     let mut i = 0;

@@ -6,7 +6,7 @@ mod text;
 
 ghost use Prim.Native.Nat.{_≤_};
 ghost use lib.ListN.{length};
-ghost use Rattle.pictures.specs.Bounds.{Within};
+ghost use Rattle.laws.specs.Places.{Within};
 
 // May a byte stand behind a column?
 fn is_behind(b: u8) -> bool {

@@ -1,7 +1,7 @@
 // Places in a text, and its pieces.
 ghost use Prim.Native.Nat.{_≤_};
 ghost use lib.ListN.{length};
-ghost use Rattle.pictures.specs.Bounds.{Within};
+ghost use Rattle.laws.specs.Places.{Within};
 
 // The first place from `from` on that holds a byte, or the end.
 pub(crate) fn find(s: &[u8], from: usize, sought: u8) -> usize

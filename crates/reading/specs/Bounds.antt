@@ -1,4 +1,4 @@
--- What the contracts cite: places in a text, and the numbers that lie in lists. Assumes nothing.
+-- What the contracts cite: the numbers that lie in lists. Assumes nothing.
 use Prim.Native.Nat.{ℕ, _+_, _≤_}
 use mathlib.Core.List.{List}
 use lib.ListN.{length}
@@ -11,11 +11,6 @@ triple = 3
 -- one row more than a study may have
 abbrev pub rowsRoom : ℕ
 rowsRoom = mostRows + 1
-
--- e is a place of s, its end included, and not before a
-pub record Within (a e : ℕ) (s : List ℕ) : Type 0 where
-  pub low : a ≤ e
-  pub high : e ≤ length s
 
 -- what is laid of a file fits its lists, which are given as they were lent
 pub record LaidOk (rows rain subareas pond : ℕ) (rainList subareaList pondList : List ℕ) : Type 0 where

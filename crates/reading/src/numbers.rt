@@ -6,7 +6,7 @@ use crate::faults::TOO_LARGE;
 use crate::faults::TOO_MANY;
 ghost use Prim.Native.Nat.{_≤_};
 ghost use lib.ListN.{length};
-ghost use Rattle.reading.specs.Bounds.{Within};
+ghost use Rattle.laws.specs.Places.{Within};
 
 // A word as it is read: its number so far, or what is wrong with it.
 struct Digits {

@@ -1,6 +1,6 @@
--- What the contracts of the reader cite: places in a text. Assumes nothing.
-use Prim.Native.Nat.{ℕ, _≤_}
+-- Places in a text.
 use mathlib.Core.List.{List}
+use Prim.Native.Nat.{ℕ, _≤_}
 use lib.ListN.{length}
 
 -- e is a place of s, its end included, and not before a
