@@ -1,6 +1,6 @@
 -- What the checks 1 to 13 leave, group by group. Assumes nothing.
 use mathlib.Core.Path.{_≡_}
-use mathlib.Core.Bool.{true, _&&_}
+use mathlib.Core.Bool.{Bool, true, _&&_}
 use mathlib.Core.List.{List, [], _∷_, _++_, map}
 use Prim.Native.Nat.{ℕ, _+_, _-_, _%_, _≤_, _<_}
 use native.Mathlib.Nat.{add-sub-cancel}
@@ -9,6 +9,7 @@ use borrow.Author.Tests.{eqb-true, leb-true, ne-eqb}
 use lib.Dec.{leb, eqb}
 use lib.ListN.{length, getD}
 use Rattle.laws.specs.Pick.{pick}
+use Rattle.laws.specs.Scan.{scan}
 use Rattle.laws.specs.Within.{within}
 use Rattle.laws.specs.Limits.{mostRows, leastStep, mostStep, lastNumber, mostRain, mostSubareas, mostArea}
 use Rattle.laws.proofs.Tests.{both-left, both-right, kept}
@@ -26,14 +27,14 @@ use Rattle.subarea.specs.Records.{halfOf, width, recordsIn, recordAt, timeOf, p
 use Rattle.subarea.specs.Needs.{RecordsOk, AllPatches, AllSegments}
 use Rattle.subarea.proofs.Subareas.{record-length}
 use Rattle.checks.specs.Site.{Site, Rows, asked}
-use Rattle.checks.specs.Order.{lengthsGood, stepGood, entriesGood, entryGood, firstEntry, lastGood, recordsGood, frameLines, rainLines, runLines, allArea, overList, limitTests, listLines, pondLines, inflowLines, checkLines}
-use Rattle.checks.specs.Needs.{StepOk, LengthsOk, RunOk, ListOk, BasinOk, SiteOk}
+use Rattle.checks.specs.Order.{lengthsGood, stepGood, entriesGood, entryGood, firstEntry, riseGood, firstLeap, lastGood, recordsGood, frameLines, rainLines, runLines, allArea, overList, limitTests, listLines, pondLines, inflowLines, checkLines}
+use Rattle.checks.specs.Needs.{StepOk, LengthsOk, RisesOk, RunOk, ListOk, BasinOk, SiteOk}
 use Rattle.checks.proofs.Passed.{each-passes}
 
 module _ (rain : List ℕ) where
-  -- every entry is within its limits where no entry is refused
-  entries : length rain ≤ firstEntry rain → (i : ℕ) → i < length rain → entryGood rain i ≡ true
-  entries l i h = scan-all (entryGood rain) (length rain) 0 (omega (arith, scan-most (entryGood rain) (length rain) 0)) i (omega arith) (omega arith)
+  -- every entry passes a test that refuses none of them
+  entries : (good : ℕ → Bool) → length rain ≤ scan good (length rain) 0 → (i : ℕ) → i < length rain → good i ≡ true
+  entries good l i h = scan-all good (length rain) 0 (omega (arith, scan-most good (length rain) 0)) i (omega arith) (omega arith)
 
   entry-limit : (i : ℕ) → entryGood rain i ≡ true → getD rain i 0 ≤ mostRain
   entry-limit i e = leb-true _ _ (both-left (leb (getD rain i 0) mostRain) _ e)
@@ -49,13 +50,19 @@ module _ (rain : List ℕ) where
   unfolding entriesGood
   rain-ok m (count, (entry, _)) =
       let long = kept 2 (length rain) (m + 1) (charge-none 2 _ 0 count) in
-      let l = first-at-none 2 (firstEntry rain) (length rain) entry in
+      let each = entries (entryGood rain) (first-at-none 2 (firstEntry rain) (length rain) entry) in
       record {
         least = long .low;
-        first = eqb-true _ _ (entry-order 0 (entries l 0 (omega (arith, long .low))));
-        rising = λ i h. rises i (entries l (i + 1) h);
-        limit = λ i h. entry-limit i (entries l i h);
+        first = eqb-true _ _ (entry-order 0 (each 0 (omega (arith, long .low))));
+        rising = λ i h. rises i (each (i + 1) h);
+        limit = λ i h. entry-limit i (each i h);
       }
+
+  -- 19 leaves a rain without a leap
+  rises-ok : (m : ℕ) → AllPass (rainLines rain m) → RisesOk rain
+  rises-ok m (_, (_, (leap, _))) =
+      let each = entries (riseGood rain) (first-at-none 18 (firstLeap rain) (length rain) leap) in
+      record { each = λ i h. leb-true _ _ (rw (add-sub-cancel i 1) at (each (i + 1) h)) }
 
 -- 5 leaves whole records
 records-ok : (s : List ℕ) → recordsGood s ≡ true → RecordsOk s
@@ -110,6 +117,7 @@ run-ok x l a =
       lengths = frame .0;
       step = frame .1;
       raining = rain-ok (x .rain) (asked l) (q .0);
+      rises = rises-ok (x .rain) (asked l) (q .0);
       last = last-ok (x .setup) (asked l) (charge-none 3 _ 0 (q .1 .0));
       records = records-ok (x .subareas) (charge-none 4 _ 0 (q .1 .1 .0));
     }

@@ -3,8 +3,8 @@ use mathlib.Core.Path.{_≡_}
 use mathlib.Core.Bool.{true}
 use mathlib.Core.List.{List}
 use Prim.Native.Nat.{ℕ, _+_, _-_, _≤_, _<_}
-use lib.ListN.{length}
-use Rattle.laws.specs.Limits.{mostRows, leastStep, mostStep, lastNumber, mostArea}
+use lib.ListN.{length, getD}
+use Rattle.laws.specs.Limits.{mostRows, leastStep, mostStep, lastNumber, mostRise, mostArea}
 use Rattle.hydrograph.specs.Needs.{TimingOk, RainOk}
 use Rattle.pond.specs.Needs.{PondOk}
 use Rattle.refusals.specs.declared.Refusal.{Refusal}
@@ -32,11 +32,16 @@ pub record LengthsOk (l : Rows) : Type 0 where
   pub least : 1 ≤ asked l
   pub most : asked l ≤ mostRows
 
+-- a rain without a leap: no entry is more than 4,000 above the one before
+pub record RisesOk (rain : List ℕ) : Type 0 where
+  pub each : (i : ℕ) → i + 1 < length rain → getD rain (i + 1) 0 ≤ getD rain i 0 + mostRise
+
 -- what 1 to 5 leave
 pub record RunOk (x : Site) (l : Rows) : Type 0 where
   pub lengths : LengthsOk l
   pub step : StepOk (x .setup)
   pub raining : RainOk (x .rain)
+  pub rises : RisesOk (x .rain)
   pub last : x .setup .first + asked l - 1 ≤ lastNumber
   pub records : RecordsOk (x .subareas)
 

@@ -8,7 +8,7 @@ use Rattle.laws.specs.Pick.{pick}
 use Rattle.laws.specs.Scan.{scan}
 use Rattle.laws.specs.Sum.{sumTo}
 use Rattle.laws.specs.Within.{within}
-use Rattle.laws.specs.Limits.{mostRows, leastStep, mostStep, lastNumber, mostRain, mostSubareas, mostArea}
+use Rattle.laws.specs.Limits.{mostRows, leastStep, mostStep, lastNumber, mostRain, mostRise, mostSubareas, mostArea}
 use Rattle.hydrograph.specs.InflowRows.{concentrationGood, peakGood, weightsGood}
 use Rattle.pond.specs.PondRows.{rowsIn, countGood, firstBad, firstShort}
 use Rattle.rows.specs.Figures.{firstForged}
@@ -36,6 +36,13 @@ entryGood rain i = leb (getD rain i 0) mostRain && pick (eqb i 0) (eqb (getD rai
 abbrev pub firstEntry : List ℕ → ℕ
 firstEntry rain = scan (entryGood rain) (length rain) 0
 
+-- 19 (Q-1): no entry is more than 4,000 above the one before (entry 0 has none before it: i - 1 stops at 0, and it is held to itself)
+abbrev pub riseGood : List ℕ → ℕ → Bool
+riseGood rain i = leb (getD rain i 0) (getD rain (i - 1) 0 + mostRise)
+
+abbrev pub firstLeap : List ℕ → ℕ
+firstLeap rain = scan (riseGood rain) (length rain) 0
+
 -- 4: the last row number, first + m - 1, is at most 9,007,199,254,740,991 (exact: 1 leaves m at least 1, `frame-ok`)
 unfoldable pub lastGood : Setup → ℕ → Bool
 lastGood g m = leb (g .first + m - 1) lastNumber
@@ -48,9 +55,13 @@ recordsGood s = eqb (length s % width) 0 && within 1 (recordsIn s) mostSubareas
 abbrev pub frameLines : Setup → Rows → List Refusal
 frameLines g l = unless 1 (lengthsGood l) ∷ unless 2 (stepGood g) ∷ []
 
--- 3, of m rows asked (two lines: the count, place 0, and the first bad entry, from 0)
+-- 3, of m rows asked (two lines: the count, place 0, and the first bad entry, from 0), then 19 (the later entry of the first leap)
 abbrev pub rainLines : List ℕ → ℕ → List Refusal
-rainLines rain m = unless 3 (entriesGood rain m) ∷ firstAt 3 (firstEntry rain) (length rain) ∷ []
+rainLines rain m =
+    unless 3 (entriesGood rain m)
+    ∷ firstAt 3 (firstEntry rain) (length rain)
+    ∷ firstAt 19 (firstLeap rain) (length rain)
+    ∷ []
 
 -- 1 to 5
 abbrev pub runLines : Site → Rows → List Refusal

@@ -16,7 +16,7 @@ ghost use Rattle.rows.specs.Figures.{firstForged};
 ghost use Rattle.refusals.specs.Refusals.{unless, firstOf, firstAt, firstRefusal};
 ghost use Rattle.subarea.specs.Records.{halfOf};
 ghost use Rattle.checks.specs.Site.{site, basin, found};
-ghost use Rattle.checks.specs.Order.{lengthsGood, stepGood, entriesGood, entryGood, firstEntry, lastGood, recordsGood, frameLines, rainLines, runLines, pondLines, inflowLines, checkLines};
+ghost use Rattle.checks.specs.Order.{lengthsGood, stepGood, entriesGood, entryGood, firstEntry, riseGood, firstLeap, lastGood, recordsGood, frameLines, rainLines, runLines, pondLines, inflowLines, checkLines};
 ghost use Rattle.checks.specs.Needs.{StepOk};
 
 // 1
@@ -87,6 +87,44 @@ fn entry_check(rain: &[u64]) -> Refusal
     Refusal::first_at(3, first_entry(rain), rain.len())
 }
 
+// Is rain entry i at most MOST_RISE above the one before? Tested by a difference, so that no sum wraps: 19 is asked of rain
+// that 3 may refuse.
+fn rise_good(rain: &[u64], i: usize) -> bool
+    requires { ⌜ i < length (now rain) ⌝ }
+    ensures { λ r. ⌜ r ≡ riseGood (now (rain .entry)) i ⌝ }
+{
+    if i == 0 {
+        return true;
+    }
+    let own = rain[i];
+    let before = rain[i - 1];
+    if own < before {
+        return true;
+    }
+    own - before <= limits::MOST_RISE
+}
+
+// The later entry of the first leap, or the number of entries.
+fn first_leap(rain: &[u64]) -> usize
+    ensures { λ r. ⌜ r ≡ firstLeap (now (rain .entry)) ⌝ }
+{
+    let mut i = 0;
+    while i < rain.len() {
+        if !rise_good(rain, i) {
+            return i;
+        }
+        i += 1;
+    }
+    i
+}
+
+// 19
+fn rise_check(rain: &[u64]) -> Refusal
+    ensures { λ r. ⌜ r ≡ firstAt 19 (firstLeap (now (rain .entry))) (length (now (rain .entry))) ⌝ }
+{
+    Refusal::first_at(19, first_leap(rain), rain.len())
+}
+
 // Is first + m - 1 a row number? Tested by a difference: the sum may pass 64 bits.
 fn last_good(setup: Setup, m: usize) -> bool
     ensures { λ r. ⌜ r ≡ lastGood setup m ⌝ }
@@ -120,11 +158,13 @@ pub fn frame_checks(setup: Setup, inflow: &[u64], outflow: &[u64], storage: &[u6
     lengths_check(inflow, outflow, storage).or(step_check(setup))
 }
 
-// Refusal 3.
+// Refusals 3 and 19.
 fn rain_checks(rain: &[u64], m: usize) -> Refusal
     ensures { λ r. ⌜ r ≡ firstRefusal (rainLines (now (rain .entry)) m) ⌝ }
 {
-    entries_check(rain, m).or(entry_check(rain))
+    entries_check(rain, m)
+        .or(entry_check(rain))
+        .or(rise_check(rain))
 }
 
 // Refusals 1 to 5.

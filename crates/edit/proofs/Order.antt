@@ -14,7 +14,7 @@ use Rattle.refusals.specs.Refusals.{refuse, none, unless, AllPass, First}
 use Rattle.checks.specs.Order.{runLines, listLines, pondLines}
 use Rattle.subarea.specs.Records.{halfOf}
 use Rattle.refusals.proofs.Orders.{all-pass, both-pass, last-is, first-there}
-use Rattle.checks.specs.Needs.{RunOk}
+use Rattle.checks.specs.Needs.{RisesOk, RunOk}
 use Rattle.checks.proofs.Ready.{run-ok}
 use Rattle.alter.specs.Altering.{altered, newInflowOf, firstChanged, placeGood, editCheckLines}
 use Rattle.edit.specs.declared.EditAnswer.{EditAnswer}
@@ -65,6 +65,10 @@ module _ (x : Site) (l : Rows) (k : ℕ) (r : List ℕ) where
     -- every row's number is below 9007199254740992
     pub edit-numbers : (i : ℕ) → i < length (l .inflow) → x .setup .first + i < 9007199254740992
     edit-numbers i h = omega (arith, accepted .last, h)
+
+    -- no entry of its rain is more than 4,000 above the one before
+    pub edit-rises : RisesOk (x .rain)
+    edit-rises = accepted .rises
 
   -- an answer's number and place are those of the refusal, or 0 and 0 when done
   pub edit-refusal : editRefusalIn (editAnswer x l k r) ≡ editRefusal x l k r

@@ -21,6 +21,10 @@ lastNumber = 9007199254740991
 abbrev pub mostRain : ℕ
 mostRain = 30000
 
+-- the rise from one rain entry to the next (Q-1)
+abbrev pub mostRise : ℕ
+mostRise = 4000
+
 -- subareas
 abbrev pub mostSubareas : ℕ
 mostSubareas = 16

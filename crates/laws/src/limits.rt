@@ -10,6 +10,8 @@ pub const LAST_NUMBER: u64 = 9007199254740991;
 
 pub const MOST_RAIN: u64 = 30000;
 
+pub const MOST_RISE: u64 = 4000;
+
 pub const MOST_SUBAREAS: usize = 16;
 
 pub const MOST_AREA: u64 = 200000;

@@ -13,7 +13,7 @@ use Rattle.rows.specs.Routing.{overRow}
 use Rattle.rows.specs.Figures.{at, releaseAt}
 use Rattle.rows.proofs.Reached.{balance}
 use Rattle.rows.proofs.Told.{over-none}
-use Rattle.checks.specs.Needs.{SiteOk}
+use Rattle.checks.specs.Needs.{RisesOk, SiteOk}
 use Rattle.refusals.specs.Refusals.{passes, refuse, none, AllPass, First}
 use Rattle.study.specs.declared.StudyAnswer.{StudyAnswer}
 use Rattle.study.specs.declared.StudyAnswer.the-variants.{Refused, Done}
@@ -60,6 +60,10 @@ module _ (x : Site) (l : Rows) where
     -- every row's number is below 9007199254740992
     pub row-numbers : (k : ℕ) → k < asked l → x .setup .first + k < 9007199254740992
     row-numbers k h = omega (arith, accepted .basin .run .last)
+
+    -- no entry of its rain is more than 4,000 above the one before
+    pub study-rises : RisesOk (x .rain)
+    study-rises = accepted .basin .run .rises
 
     -- through every row of what a study leaves, all inflow is the water stored with the water released
     pub study-balance : (k : ℕ) → k < asked l

@@ -10,4 +10,4 @@ unfolding firstAfter
 returns c = search joined
 
 pub rain-checks-spec : {M : Type 1} → statement M
-rain-checks-spec = tie.close (tie.spec (search needs) (search needs) (search needs) returns)
+rain-checks-spec = tie.close (tie.spec (search needs) (search needs) (search needs) (search needs) (search needs) returns)
