@@ -70,8 +70,12 @@ enum {
     BT_MOST_POND_ROWS = 64
 };
 
-/* The row lists have one length, 1 to BT_MOST_ROWS. Rain has 2 entries to one more than there are rows. */
-enum { BT_MOST_ROWS = 2000 };
+/* The row lists have one length, 1 to BT_MOST_ROWS. Rain has 2 entries to one more than there are rows, and rises by at
+   most BT_MOST_RISE thousandths of an inch from one to the next. */
+enum {
+    BT_MOST_ROWS = 2000,
+    BT_MOST_RISE = 4000
+};
 
 /* The greatest number that the last row may have, 2^53 - 1: a double holds every row number. */
 #define BT_LAST_ROW_NUMBER UINT64_C(9007199254740991)
@@ -130,7 +134,8 @@ enum {
 };
 
 /* Refusal numbers, and after the semicolon what the place beside each of them is. Subareas, rows and pond rows count
-   from 1, rain entries from 0. Each number is given for the first place that has the fault. */
+   from 1, rain entries from 0. Each number is given for the first place that has the fault. They are asked in the order
+   1, 2, 3, 19, 4, 5 and on; docs/SCOPE.md has it for each call. */
 enum {
     BT_REFUSED_ROWS = 1,          /* the row lists differ in length, or are not 1 to 2,000 rows long; 0 */
     BT_REFUSED_STEP = 2,          /* the step is odd, or not 60 to 3,600; 0 */
@@ -150,7 +155,8 @@ enum {
     BT_REFUSED_INFLOW = 16,       /* edit: an inflow row below the old record's part, or above 217,800,000,000; row */
     BT_REFUSED_STANDING = 17,     /* edit, mark: outflow above the last discharge, storage below half the step times
                                      outflow, or the two together above what the pond's last row holds; row */
-    BT_REFUSED_ASKED = 18         /* mark: the row asked is not 1 to m; 0 */
+    BT_REFUSED_ASKED = 18,        /* mark: the row asked is not 1 to m; 0 */
+    BT_REFUSED_RISE = 19          /* rain rises by more than BT_MOST_RISE from one entry to the next; the later entry */
 };
 
 /* ---- Calls. Each gives the refusal number, 0 when done, and writes its answers whole either way. */

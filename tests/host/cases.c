@@ -17,14 +17,13 @@ static void take_with(const char *kind, struct site *s, u64 *at, u64 value)
 
 /* ---- Sites to start from */
 
-/* One patch, one segment, 8 rows, one rain step. D 212 lets every Tc from 360 to 36,000 pass; all water is in by row 6
-   where Tc is 360. */
+/* One patch, one segment, 8 rows, one rain step of the greatest rise. D 212 lets every Tc from 360 to 36,000 pass; all
+   water is in by row 6 where Tc is 360. */
 static void lone_site(struct site *s)
 {
     *s = (struct site){ .step = 212, .first = 1 };
     set_rows(s, 8);
-    s->rain.len = 2;
-    s->rain.at[1] = 5000;
+    pour(s, BT_MOST_RISE);
     s->subareas.len = BT_WIDTH;
     u64 *record = record_at(s, 0);
     record[BT_PATCH_COUNT] = 1;
@@ -284,6 +283,67 @@ static void rain_entries(struct site *s, struct prng *r)
     for (size_t t = 1; t < s->rain.len; t++)
         s->rain.at[t] = 0;
     take_site("no rain", s);
+    pour(s, 30000);
+    for (u64 total = 29999; total <= 30001; total++)
+        take_with("the most rain, as soon as it may come", s, &s->rain.at[8], total);
+}
+
+/* ---- Rises between rain entries */
+
+static void take_rise(const char *kind, struct site *s, size_t t, u64 rise)
+{
+    struct list was = s->rain;
+    set_rise(s, t, rise);
+    take_site(kind, s);
+    s->rain = was;
+}
+
+static void rises_at_limits(struct site *s)
+{
+    static const u64 rises[] = { 0, 3999, 4000, 4001, 4002, 8000, 20000 };
+    for (int where = 0; where < 3; where++)
+        for (size_t i = 0; i < COUNT(rises); i++)
+            take_rise("a rise at its limit", s, 1 + place(where, s->rain.len - 1), rises[i]);
+}
+
+/* Every two entries: the first leap is charged. */
+static void two_leaps(struct site *s)
+{
+    for (size_t one = 1; one < s->rain.len; one++)
+        for (size_t two = one + 1; two < s->rain.len; two++) {
+            struct list was = s->rain;
+            set_rise(s, one, BT_MOST_RISE + 1);
+            set_rise(s, two, BT_MOST_RISE + 1000);
+            take_site("two leaps", s);
+            s->rain = was;
+        }
+}
+
+/* A leap at one entry and a fault of 3 at another, in both orders: 3 is asked of the whole rain first. The last two
+   make a difference of 64 bits wrap to what 19 lets pass. */
+static void leaps_and_bad_entries(struct site *s)
+{
+    struct list was = s->rain;
+    for (size_t one = 1; one < s->rain.len; one++)
+        for (size_t two = 1; two < s->rain.len; two++) {
+            set_rise(s, one, BT_MOST_RISE + 1);
+            u64 before = s->rain.at[two - 1];
+            const u64 values[] = { before - 1, 30001, before + 4294967296, MOST, before + ((u64)1 << 63) };
+            for (size_t i = 0; i < COUNT(values); i++)
+                take_with("a leap and a bad entry", s, &s->rain.at[two], values[i]);
+            s->rain.at[two - 1] = MOST;
+            take_with("a leap and a rise that wraps", s, &s->rain.at[two], BT_MOST_RISE - 1);
+            take_with("a leap and a rise that wraps", s, &s->rain.at[two], 0);
+            s->rain = was;
+        }
+}
+
+static void rain_rises(struct site *s, struct prng *r)
+{
+    plain_site(s, r, 3, 5);
+    rises_at_limits(s);
+    two_leaps(s);
+    leaps_and_bad_entries(s);
 }
 
 /* ---- Total area */
@@ -354,15 +414,17 @@ static void peaks(struct site *s, struct prng *r)
 static void weights_at_random(struct site *s, struct prng *r)
 {
     lone_site(s);
-    s->rain.at[1] = 30000;
     patch_at(record_at(s, 0), 0)[2] = 200000;
     for (int i = 0; i < 400; i++) {
         s->step = 2 * between(r, 30, chance(r, 50) ? 150 : 1800);
         u64 least = s->step < 216 ? 216 : s->step, most = 512 * s->step / 5;
         u64 peak = between(r, least, most < 21600 ? most : 21600);
         set_concentration(record_at(s, 0), concentration_of(peak));
-        set_rows(s, 5 * peak / s->step + 2);
+        set_rows(s, 5 * peak / s->step + 9);
+        pour(s, BT_MOST_RISE);
         take_site("every weight in the rows", s);
+        pour(s, 30000);
+        take_site("every weight in the rows, and the most rain", s);
     }
 }
 
@@ -384,8 +446,10 @@ static void drizzle(struct site *s, struct prng *r)
         set_cover(s, 0, code);
         u64 curve = reference_curve(record_at(s, 0)), dry = (200000 - 2000 * curve) / curve;
         const u64 rains[] = { 1, dry / 2, dry - 1, dry, dry + 1, dry + 2, dry + 20, between(r, 1, 30000), 30000 };
-        for (size_t i = 0; i < COUNT(rains); i++)
-            take_with("drizzle", s, &s->rain.at[1], rains[i]);
+        for (size_t i = 0; i < COUNT(rains); i++) {
+            pour(s, rains[i]);
+            take_site("drizzle", s);
+        }
     }
 }
 
@@ -409,7 +473,8 @@ static void runoffs_at_random(struct site *s, struct prng *r)
     for (int i = 0; i < 2000; i++) {
         patch_at(record_at(s, 0), 0)[0] = between(r, 1, 22);
         patch_at(record_at(s, 0), 0)[1] = between(r, 1, 4);
-        take_with("one rain, one cover", s, &s->rain.at[1], between(r, 1, 30000));
+        pour(s, between(r, 1, 30000));
+        take_site("one rain, one cover", s);
     }
 }
 
@@ -538,7 +603,7 @@ static void close_lines(struct site *s, struct prng *r)
     for (int i = 0; i < 60; i++) {
         lone_site(s);
         patch_at(record_at(s, 0), 0)[2] = between(r, 100000, 200000);
-        s->rain.at[1] = between(r, 20000, 30000);
+        s->rain.at[1] = between(r, 3000, BT_MOST_RISE);
         rows_of(s, inflow, outflow, storage);
         u64 x = inflow[0], q = between(r, 500000, 4000000), half = s->step / 2;
         s->pond.len = 6;
@@ -559,8 +624,8 @@ static void two_faults(struct site *s, struct prng *r)
             for (int where = 0; where < 9; where++) {
                 *s = (struct site){ 0 };
                 plain_site(s, r, 5, 7);
-                FAULTS[two](s, where / 3);
-                FAULTS[one](s, where % 3);
+                FAULTS[two].make(s, where / 3);
+                FAULTS[one].make(s, where % 3);
                 take_site("two faults", s);
             }
 }
@@ -572,7 +637,7 @@ static void every_fault_from_one_on(struct site *s, struct prng *r)
             *s = (struct site){ 0 };
             plain_site(s, r, 5, 7);
             for (size_t other = STUDY_FAULTS; other-- > one;)
-                FAULTS[other](s, where);
+                FAULTS[other].make(s, where);
             take_site("every fault from one number on", s);
         }
 }
@@ -590,8 +655,9 @@ static void row_counts(struct site *s, struct prng *r)
             plain_site(s, r, 2, 9);
             set_rows(s, m);
             s->rain.len = n + 1;
+            u64 most = n < 8 ? BT_MOST_RISE * n : 30000;
             for (size_t t = 1; t <= n; t++)
-                s->rain.at[t] = 30000 * t / n;
+                s->rain.at[t] = most * t / n;
             take_site("few rows and many", s);
         }
     }
@@ -607,7 +673,7 @@ void chosen_cases(u64 seed)
         every_number_of_three_sites, record_limits_of_two_sites, segments_at_random, steps, first_numbers,
         row_lengths, rain_lengths, subarea_lengths, pond_lengths, rain_entries, total_areas, concentrations, peaks,
         weights_at_random, drizzle, runoffs_at_random, pond_limits, greatest_pond, pond_storages, full_ponds,
-        close_lines, two_faults, every_fault_from_one_on, row_counts,
+        close_lines, two_faults, every_fault_from_one_on, row_counts, rain_rises,
     };
     for (size_t i = 0; i < COUNT(plain); i++) {
         s = (struct site){ 0 };

@@ -35,9 +35,10 @@ static void start_edit(struct edit *e, struct prng *r, size_t count, int where)
 /* No rain before entry 'row', much from it on: it is the first row with any parts. */
 static void dry_until(struct edit *e, size_t row)
 {
+    u64 wish = 3000 + 100 * row, first = wish < BT_MOST_RISE ? wish : BT_MOST_RISE;
     e->site.rain.len = e->site.inflow + 1;
     for (size_t t = 0; t < e->site.rain.len; t++)
-        e->site.rain.at[t] = t < row ? 0 : 3000 + 100 * t;
+        e->site.rain.at[t] = t < row ? 0 : first + 100 * (t - row);
     stand(e);
 }
 
@@ -376,6 +377,22 @@ static void full_tails(struct edit *e, struct prng *r)
     }
 }
 
+/* ---- Rises of the rain: rows that stand on one at its limit, then lent with one past it */
+
+static void rises(struct edit *e, struct prng *r)
+{
+    for (int at = 0; at < 3; at++)
+        for (int where = 0; where < 3; where++) {
+            start_edit(e, r, 3, where);
+            size_t t = 1 + place(at, e->site.rain.len - 1);
+            set_rise(&e->site, t, BT_MOST_RISE);
+            stand(e);
+            take_edit("a rise at its limit", e);
+            set_rise(&e->site, t, BT_MOST_RISE + 1);
+            take_edit("a rise past its limit", e);
+        }
+}
+
 /* ---- Two faults at once, in the order of an edit */
 
 static void fault_place(struct edit *e, int where)
@@ -388,7 +405,7 @@ static void fault_fresh(struct edit *e, int number, int where)
 {
     static struct site other;
     other = e->site;
-    FAULTS[number - 1](&other, where);
+    fault_of(&other, number, where);
     e->site.step = other.step;
     memcpy(e->fresh, record_at(&other, place(where, 5)), sizeof e->fresh);
 }
@@ -409,14 +426,15 @@ static void fault_standing(struct edit *e, int where)
 /* A pond that holds little, and rows with no water in them, which pass 17. */
 static void fault_full(struct edit *e, int where)
 {
-    FAULTS[BT_REFUSED_FULL - 1](&e->site, where);
+    fault_of(&e->site, BT_REFUSED_FULL, where);
     memset(e->found.outflow, 0, sizeof e->found.outflow);
     memset(e->found.storage, 0, sizeof e->found.storage);
 }
 
 enum { FRESH = 100 }; /* 6 to 11 of the new record stand as 106 to 111 */
 
-static const int ORDER[] = { 1, 2, 3, 4, 5, 15, 6, 7, 8, 9, 10, 11, 106, 107, 108, 109, 110, 111, 12, 13, 16, 17, 14 };
+static const int ORDER[] = { 1,  2,   3,   19,  4,   5,   15,  6,  7,  8,  9,  10,
+                             11, 106, 107, 108, 109, 110, 111, 12, 13, 16, 17, 14 };
 
 static void make_fault(struct edit *e, int number, int where)
 {
@@ -431,7 +449,7 @@ static void make_fault(struct edit *e, int number, int where)
     else if (number == BT_REFUSED_STANDING)
         fault_standing(e, where);
     else
-        FAULTS[number - 1](&e->site, where);
+        fault_of(&e->site, number, where);
 }
 
 /* The later number's fault goes in first, since some faults make room for others. Each takes each place. */
@@ -464,7 +482,7 @@ void chosen_edits(u64 seed)
     static void (*const all[])(struct edit *, struct prng *) = {
         same_records, dry_records,   places,             fresh_records, fresh_areas,    fresh_times,
         found_rows,   order_of_rows, first_changed_rows, states_before, rows_that_meet, full_tails,
-        two_faults,   every_fault_from_one_on,
+        two_faults,   every_fault_from_one_on, rises,
     };
     for (size_t i = 0; i < COUNT(all); i++) {
         struct prng r = prng_of(seed, 1000 + i);

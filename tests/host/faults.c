@@ -21,6 +21,11 @@ static void fault_rain(struct site *s, int where)
     s->rain.at[t] = t == 0 ? 1 : where == 1 ? 30001 : s->rain.at[t - 1] - 1;
 }
 
+static void fault_rise(struct site *s, int where)
+{
+    set_rise(s, 1 + place(where, s->rain.len - 1), BT_MOST_RISE + 1);
+}
+
 static void fault_last_number(struct site *s, int where)
 {
     s->first = where == 0 ? BT_LAST_ROW_NUMBER : where == 1 ? UINT64_MAX : (u64)1 << 63;
@@ -99,8 +104,27 @@ static void fault_full(struct site *s, int where)
     }
 }
 
-fault *const FAULTS[STUDY_FAULTS] = {
-    fault_rows,    fault_step, fault_rain,          fault_last_number,     fault_count,   fault_patch, fault_segment,
-    fault_area,    fault_concentration,             fault_step_above_peak, fault_weights, fault_pond,
-    fault_pond_storage,                             fault_full,
+const struct fault FAULTS[STUDY_FAULTS] = {
+    { BT_REFUSED_ROWS, fault_rows },
+    { BT_REFUSED_STEP, fault_step },
+    { BT_REFUSED_RAIN, fault_rain },
+    { BT_REFUSED_RISE, fault_rise },
+    { BT_REFUSED_ROW_NUMBERS, fault_last_number },
+    { BT_REFUSED_SUBAREAS, fault_count },
+    { BT_REFUSED_PATCHES, fault_patch },
+    { BT_REFUSED_SEGMENTS, fault_segment },
+    { BT_REFUSED_AREA, fault_area },
+    { BT_REFUSED_TIME, fault_concentration },
+    { BT_REFUSED_LONG_STEP, fault_step_above_peak },
+    { BT_REFUSED_SHORT_STEP, fault_weights },
+    { BT_REFUSED_POND, fault_pond },
+    { BT_REFUSED_POND_STORAGE, fault_pond_storage },
+    { BT_REFUSED_FULL, fault_full },
 };
+
+void fault_of(struct site *s, int number, int where)
+{
+    for (size_t i = 0; i < STUDY_FAULTS; i++)
+        if (FAULTS[i].number == number)
+            FAULTS[i].make(s, where);
+}

@@ -4,11 +4,17 @@
 
 #include "site.h"
 
-enum { STUDY_FAULTS = 14 };
+/* Made in the first, a middle or the last of the places that can have it: 0, 1, 2. */
+struct fault {
+    int number;
+    void (*make)(struct site *s, int where);
+};
 
-/* Makes the fault in the first, a middle or the last of the places that can have it: 0, 1, 2. */
-typedef void fault(struct site *s, int where);
+enum { STUDY_FAULTS = 15 };
 
-extern fault *const FAULTS[STUDY_FAULTS]; /* that of refusal n at n - 1 */
+extern const struct fault FAULTS[STUDY_FAULTS]; /* in the order of a study */
+
+/* Makes the fault of a number. */
+void fault_of(struct site *s, int number, int where);
 
 #endif

@@ -82,6 +82,32 @@ static void limits(void)
     figure("last row number 9007199254740992", refusal_of(60, 360, 0, 9007199254740992), 4);
 }
 
+/* ---- Rises of the rain: docs/DECISIONS.md, request Q-1 */
+
+static u64 refusal_of_rain(const u64 *rain, size_t entries, u64 *place)
+{
+    static const u64 pond[] = { 0, 0, 0, 1000, 1000000, 0 };
+    u64 record[BT_WIDTH] = { 1, 4, 1, 1 }, rows[3][3], answer[BT_ANSWER_LENGTH];
+    set_concentration(record, 360);
+    reference_study(60, 1, rain, entries, record, BT_WIDTH, pond, 6, rows[0], 3, rows[1], 3, rows[2], 3, answer);
+    *place = answer[BT_PLACE];
+    return answer[BT_REFUSAL];
+}
+
+static void rises(void)
+{
+    static const u64 most[] = { 0, 4000, 8000, 12000 }, first[] = { 0, 4001, 4001 }, last[] = { 0, 500, 750, 12500 };
+    static const u64 falls[] = { 0, 4001, 4002, 4001 };
+    u64 place;
+    figure("rises of 4,000", refusal_of_rain(most, 4, &place), 0);
+    figure("a rise of 4,001 from entry 0", refusal_of_rain(first, 3, &place), 19);
+    figure("its place", place, 1);
+    figure("12,500 typed for 1,250", refusal_of_rain(last, 4, &place), 19);
+    figure("its place", place, 3);
+    figure("a leap, then a fall", refusal_of_rain(falls, 4, &place), 3);
+    figure("its place", place, 3);
+}
+
 /* ---- Edits of one or two rows in a pond of the greatest size: docs/DECISIONS.md, readings of open places */
 
 struct small_edit {
@@ -167,6 +193,7 @@ int figures_wrong(void)
     pond_rows_of_three();
     pond_ends();
     limits();
+    rises();
     nothing_changed();
     found_rows();
     marks();

@@ -197,7 +197,7 @@ static void make_fault(struct mark *m, int number, int where)
     else if (number == BT_REFUSED_STANDING)
         *(where == 0 ? &m->found.outflow[0] : &m->found.storage[place(where, 12)]) = MOST - 18000000;
     else
-        FAULTS[number - 1](&m->site, where);
+        fault_of(&m->site, number, where);
 }
 
 static void two_faults(struct mark *m, struct prng *r)
@@ -216,12 +216,12 @@ static void two_faults(struct mark *m, struct prng *r)
 /* Faults that a study has and no mark looks for. */
 static void faults_of_studies(struct mark *m, struct prng *r)
 {
-    static const int numbers[] = { 3, 5, 6, 7, 8, 9 };
+    static const int numbers[] = { 3, 19, 5, 6, 7, 8, 9 };
     for (size_t i = 0; i < COUNT(numbers); i++)
         for (int where = 0; where < 3; where++) {
             start_mark(m, r);
             m->row = place(where, 12) + 1;
-            FAULTS[numbers[i] - 1](&m->site, where);
+            fault_of(&m->site, numbers[i], where);
             take_mark("a fault of rain or subareas", m);
         }
 }

@@ -106,7 +106,7 @@ static void add_classes(const u64 *record, u64 *answer)
     }
 }
 
-/* ---- Checks 1 to 13 */
+/* ---- Checks 1 to 13, and 19 after 3 */
 
 static struct refusal check_lengths(u64 inflow_len, u64 outflow_len, u64 storage_len)
 {
@@ -126,6 +126,15 @@ static struct refusal check_rain(const struct job *j)
     for (size_t t = 1; t < j->rain_len; t++)
         if (j->rain[t] > 30000 || j->rain[t] < j->rain[t - 1])
             return refused(3, t);
+    return PASSED;
+}
+
+/* After 3: no difference is below 0. */
+static struct refusal check_rises(const struct job *j)
+{
+    for (size_t t = 1; t < j->rain_len; t++)
+        if (j->rain[t] - j->rain[t - 1] > BT_MOST_RISE)
+            return refused(19, t);
     return PASSED;
 }
 
@@ -197,7 +206,7 @@ static struct refusal check_pond(const struct job *j)
     return PASSED;
 }
 
-/* 1 to 5. */
+/* 1 to 5, and 19 after 3. */
 static struct refusal check_setup(struct job *j, u64 inflow_len, u64 outflow_len, u64 storage_len)
 {
     struct refusal r = check_lengths(inflow_len, outflow_len, storage_len);
@@ -205,6 +214,8 @@ static struct refusal check_setup(struct job *j, u64 inflow_len, u64 outflow_len
         r = check_step(j);
     if (r.number == 0)
         r = check_rain(j);
+    if (r.number == 0)
+        r = check_rises(j);
     if (r.number == 0)
         r = check_numbers(j);
     return r.number == 0 ? check_count(j) : r;
@@ -425,7 +436,7 @@ uint64_t plain_study(uint64_t step, uint64_t first, const uint64_t *rain, size_t
 
 /* ---- The edit */
 
-/* 1 to 5, 15, 6 to 11 twice, 12, 13. */
+/* 1 to 5 with 19 after 3, 15, 6 to 11 twice, 12, 13. */
 static struct refusal check_edit(struct job *j, u64 inflow_len, u64 outflow_len, u64 storage_len, u64 place,
                                  const u64 *fresh)
 {

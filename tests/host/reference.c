@@ -10,6 +10,7 @@ enum {
     MOST_SEGMENTS = 6,
     MOST_WEIGHTS = 512,
     MOST_RAIN = 30000,
+    MOST_RISE = 4000,
     MOST_AREA = 200000,
     MOST_POND_ROWS = 64,
     KNOTS = 33
@@ -296,6 +297,15 @@ static struct refusal check_rain(const struct lent *s)
     return PASSED;
 }
 
+/* A larger rise between neighbours is charged to the later entry. */
+static struct refusal check_rises(const struct lent *s)
+{
+    for (size_t t = 1; t < s->rain_len; t++)
+        if ((wide)s->rain[t] - s->rain[t - 1] > MOST_RISE)
+            return refuse(true, 19, t);
+    return PASSED;
+}
+
 struct refusal check_last_number(const struct lent *s)
 {
     return refuse((wide)s->first + s->inflow_len - 1 > LAST_ROW_NUMBER, 4, 0);
@@ -433,8 +443,9 @@ struct refusal first_of(check *const *checks, size_t count, const struct lent *s
 
 struct refusal run_checks(const struct lent *s)
 {
-    static check *const checks[] = { check_rows, check_step, check_rain, check_last_number, check_count };
-    return first_of(checks, 5, s);
+    static check *const checks[] = { check_rows,  check_step,        check_rain,
+                                     check_rises, check_last_number, check_count };
+    return first_of(checks, 6, s);
 }
 
 struct refusal list_checks(const struct lent *s)

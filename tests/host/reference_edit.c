@@ -53,7 +53,7 @@ struct refusal check_standing(const struct lent *s, const u64 *outflow, const u6
     return PASSED;
 }
 
-/* 1 to 5, 15, 6 to 11 on the list as it stands, 6 to 11 on the altered list, 12, 13. */
+/* 1 to 5 with 19 after 3, 15, 6 to 11 on the list as it stands, 6 to 11 on the altered list, 12, 13. */
 static struct refusal check_lists(const struct lent *s, u64 place, const u64 *fresh, u64 *list)
 {
     struct refusal r = run_checks(s);

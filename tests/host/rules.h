@@ -36,7 +36,7 @@ struct refusal refuse(bool when, u64 number, u64 place);
 struct refusal first_of(check *const *checks, size_t count, const struct lent *s);
 
 check check_rows, check_step, check_last_number; /* 1, 2, 4 */
-check run_checks;                                /* 1 to 5 */
+check run_checks;                                /* 1 to 5, and 19 after 3 */
 check list_checks;                               /* 6 to 11 */
 check pond_checks;                               /* 12, 13 */
 

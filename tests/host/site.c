@@ -193,7 +193,34 @@ static void random_subareas(struct site *s, struct prng *r, size_t count, u64 mo
 
 /* ---- Rain and pond */
 
-/* n steps that reach 'total'; some dry, some heavy. */
+void pour(struct site *s, u64 total)
+{
+    size_t n = total == 0 ? 1 : (total + BT_MOST_RISE - 1) / BT_MOST_RISE;
+    s->rain.len = n + 1;
+    s->rain.at[0] = 0;
+    for (size_t t = 1; t <= n; t++)
+        s->rain.at[t] = t < n ? BT_MOST_RISE * t : total;
+}
+
+void set_rise(struct site *s, size_t t, u64 rise)
+{
+    u64 more = s->rain.at[t - 1] + rise - s->rain.at[t];
+    for (; t < s->rain.len; t++)
+        s->rain.at[t] += more;
+}
+
+/* Takes from each rise what 19 refuses; the storm then ends lower. */
+static void soften(struct list *rain)
+{
+    u64 before = 0;
+    for (size_t t = 1; t < rain->len; t++) {
+        u64 own = rain->at[t], rise = own - before;
+        rain->at[t] = rain->at[t - 1] + (rise < BT_MOST_RISE ? rise : BT_MOST_RISE);
+        before = own;
+    }
+}
+
+/* n steps that reach 'total', or come near it; some dry, some heavy. */
 static void random_rain(struct site *s, struct prng *r, size_t n, u64 total)
 {
     u64 sum = 0, dry = below(r, 80);
@@ -203,6 +230,7 @@ static void random_rain(struct site *s, struct prng *r, size_t n, u64 total)
         s->rain.at[t] = sum += chance(r, dry) ? 0 : chance(r, 10) ? below(r, 2000) : below(r, 100);
     for (size_t t = 1; t <= n; t++)
         s->rain.at[t] = sum == 0 ? total : s->rain.at[t] * total / sum;
+    soften(&s->rain);
 }
 
 static u64 area_of(const u64 *record)
@@ -370,6 +398,15 @@ static void spoil_length(struct site *s, struct prng *r)
     }
 }
 
+/* A rise about as high as refusal 19 lets it be, or any. */
+static void spoil_rise(struct site *s, struct prng *r)
+{
+    if (s->rain.len < 2)
+        return;
+    u64 rise = chance(r, 70) ? BT_MOST_RISE - 1 + below(r, 3) : below(r, 30000);
+    set_rise(s, between(r, 1, s->rain.len - 1), rise);
+}
+
 /* Discharge from some row on about as high as refusal 13 lets it be. */
 static void spoil_discharge(struct site *s, struct prng *r)
 {
@@ -403,7 +440,7 @@ static void spoil_fit(struct site *s, struct prng *r)
 
 static void spoil(struct site *s, struct prng *r)
 {
-    switch (below(r, 11)) {
+    switch (below(r, 12)) {
     case 0: s->step = nasty(r, s->step); break;
     case 1: s->first = chance(r, 50) ? nasty(r, s->first) : BT_LAST_ROW_NUMBER - s->inflow + below(r, 4); break;
     case 2: spoil_number(&s->rain, r); break;
@@ -413,6 +450,7 @@ static void spoil(struct site *s, struct prng *r)
     case 6: spoil_length(s, r); break;
     case 7:
     case 8: spoil_fit(s, r); break;
+    case 9: spoil_rise(s, r); break;
     default: spoil_record(s, r); break;
     }
 }

@@ -55,6 +55,11 @@ u64 concentration_of(u64 peak);                      /* the least Tc whose Tp is
 void set_pond(struct site *s, size_t rows, u64 capacity, u64 half, u64 percent);
 u64 total_area(const struct site *s);
 
+/* Rain that reaches 'total' as soon as 19 lets it, entry by entry; and entry t 'rise' above the one before, with those
+   after it moved by as much. */
+void pour(struct site *s, u64 total);
+void set_rise(struct site *s, size_t t, u64 rise);
+
 /* Parts of a good record: litter past the counts, patches of an area together at most 'most', a path that 9 to 11 allow
    with the site's step. */
 void litter(u64 *record, struct prng *r);

@@ -3,7 +3,7 @@
 #include <inttypes.h>
 #include <stdio.h>
 
-enum { LAST_REFUSAL = 18 };
+enum { LAST_REFUSAL = 19 };
 
 static struct {
     u64 study[LAST_REFUSAL + 1], edit[LAST_REFUSAL + 1], mark[LAST_REFUSAL + 1]; /* by refusal number, 0 for done */
@@ -12,7 +12,7 @@ static struct {
     u64 done[3];                  /* done edits: no row changed, the first on, a later one on */
     u64 row[LAST_REFUSAL + 1][3]; /* edits refused at a row: before the first changed, from it on, with none changed */
     u64 records[3];               /* studies of whole records: none, 1 to 16, more */
-    u64 early[2];                 /* of more: refused with 1 to 4, with 5 */
+    u64 early[2];                 /* of more: refused before 5, with 5 */
     u64 kind[3];                  /* marks that are nothing, an outflow, a peak */
     u64 asked[2];                 /* marks refused with 17 at the row asked, at another */
 } tally;
@@ -100,10 +100,20 @@ static void print_end(u64 count, bool possible)
         printf(" %8s", "");
 }
 
+static bool ends_study(int n)
+{
+    return n <= BT_REFUSED_FULL || n == BT_REFUSED_RISE;
+}
+
+static bool ends_edit(int n)
+{
+    return n != BT_REFUSED_ASKED;
+}
+
 static bool ends_mark(int n)
 {
     return n <= BT_REFUSED_STEP || n == BT_REFUSED_ROW_NUMBERS || n == BT_REFUSED_POND ||
-           n == BT_REFUSED_POND_STORAGE || n >= BT_REFUSED_STANDING;
+           n == BT_REFUSED_POND_STORAGE || n == BT_REFUSED_STANDING || n == BT_REFUSED_ASKED;
 }
 
 static void print_ends(void)
@@ -114,8 +124,8 @@ static void print_ends(void)
             printf("done      ");
         else
             printf("refusal %2d", n);
-        print_end(tally.study[n], n <= BT_REFUSED_FULL);
-        print_end(tally.edit[n], n <= BT_REFUSED_STANDING);
+        print_end(tally.study[n], ends_study(n));
+        print_end(tally.edit[n], ends_edit(n));
         print_end(tally.mark[n], ends_mark(n));
         printf("\n");
     }
@@ -144,7 +154,7 @@ bool print_tally(void)
     print_ends();
     print_counts("14 of studies at the first row, between, the last", tally.full, 3);
     print_counts("studies of no record, of 1 to 16, of more", tally.records, 3);
-    print_counts("of more, refused with 1 to 4, with 5", tally.early, 2);
+    print_counts("of more, refused before 5, with 5", tally.early, 2);
     print_edits();
     print_counts("marks: nothing, an outflow, a peak", tally.kind, 3);
     print_counts("17 of marks at the row asked, at another", tally.asked, 2);

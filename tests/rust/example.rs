@@ -1,5 +1,5 @@
-// A study from Rust: that of tests/host/example, with the same numbers. tests/rust/run compiles this, runs it, and
-// compares what it prints.
+// Two studies from Rust, one refused: those of tests/host/example, with the same numbers. tests/rust/run compiles this,
+// runs it, and compares what it prints.
 //
 //     rustc --edition 2021 -O -L target/staticlib tests/rust/example.rs -o example
 //
@@ -43,7 +43,11 @@ extern "C" {
     ) -> u64;
 }
 
+/// The refusal of rain that rises by more than 4,000 from one entry to the next; its place is the later one.
+const REFUSED_RISE: u64 = 19;
+
 /// What a study is worked from.
+#[derive(Clone, Copy)]
 struct Site<'a> {
     step: u64,
     first: u64,
@@ -123,6 +127,13 @@ fn main() {
         pond: &[0, 0, 0, 1000, 12000000, 2000, 2000, 30000000, 9000, 4000, 90000000, 20000],
     };
     let mut rows = Rows { inflow: vec![0; 24], outflow: vec![0; 24], storage: vec![0; 24] };
+    let slipped = Site {
+        rain: &[0, 60, 150, 300, 600, 1400, 2200, 2500, 2700, 2830, 2920, 2970, 30000], // a slipped decimal
+        ..site
+    };
+    if let Err((REFUSED_RISE, place)) = study(&slipped, &mut rows) {
+        println!("the study with a slipped decimal is refused: {REFUSED_RISE} at {place}");
+    }
     match study(&site, &mut rows) {
         Ok(answer) => print_figures(&answer),
         Err((number, place)) => println!("the study is refused: {number} at {place}"),

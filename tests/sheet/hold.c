@@ -8,15 +8,16 @@
 #include <sys/wait.h>
 #include <unistd.h>
 
+#include "faults.h"
 #include "paper.h"
 
-enum { PATH = 4096, MOST_WORDS = 8, REFUSALS = 14 };
+enum { PATH = 4096, MOST_WORDS = 8, LAST_REFUSAL = BT_REFUSED_RISE };
 
 static const char *folder;
 static char *program[MOST_WORDS + 2]; /* its words, room for the file's name, NULL */
 static size_t words;
 static char case_path[PATH];
-static u64 cases, sheets, faults, refused[REFUSALS + 1];
+static u64 cases, sheets, faults, refused[LAST_REFUSAL + 1]; /* by number */
 
 static void stop(const char *why)
 {
@@ -149,11 +150,12 @@ bool report(void)
 {
     u64 refusals = 0;
     bool all = sheets > 0;
-    for (u64 n = 1; n <= REFUSALS; n++) {
+    for (size_t i = 0; i < STUDY_FAULTS; i++) {
+        int n = FAULTS[i].number;
         refusals += refused[n];
         all = all && refused[n] > 0;
         if (refused[n] == 0)
-            fprintf(stderr, "sheet: refusal %" PRIu64 " is in no case\n", n);
+            fprintf(stderr, "sheet: refusal %d is in no case\n", n);
     }
     printf("sheet: %" PRIu64 " files print what the reference has for them: %" PRIu64 " sheets, %" PRIu64 " refusals, %" PRIu64
            " faults\n", cases, sheets, refusals, faults);

@@ -212,6 +212,7 @@ static const char *const RULES[] = {
     "never falling, the first storage and discharge 0",
     " (pond row): it must store at least half a step of its discharge",
     " (row): its water must not be more than the last pond row can hold and release",
+    [BT_REFUSED_RISE] = " (rain entry): it must be at most 4 inches above the one before",
 };
 
 u64 paper(const struct site *s, char *text, size_t room)

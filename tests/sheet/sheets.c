@@ -151,6 +151,23 @@ static void stored(struct site *s, u64 past)
     hold_site("half a step of discharge", s, &r);
 }
 
+/* The last rain entry above the one before, and the most rain, as soon as it may come. */
+static void risen(struct site *s, u64 past)
+{
+    struct prng r = fresh_plain(s, 3, 7);
+    set_rise(s, s->rain.len - 1, BT_MOST_RISE + past);
+    set_pond(s, 7, 900000000000, 1800, 100);
+    hold_site("a rise of the rain", s, &r);
+}
+
+static void poured(struct site *s, u64 past)
+{
+    struct prng r = fresh_plain(s, 3, 7);
+    pour(s, 30000 + past);
+    set_pond(s, 7, 900000000000, 1800, 100);
+    hold_site("the most rain", s, &r);
+}
+
 /* A pond that releases nothing, and holds the study's water. */
 static void full(struct site *s, u64 past)
 {
@@ -175,6 +192,8 @@ static void together(struct site *s)
         timed(s, 120, concentration_of(512 * 120 / 5 + 1) - 1 + past);
         stored(s, past);
         full(s, past);
+        risen(s, past);
+        poured(s, past);
     }
 }
 
@@ -183,7 +202,7 @@ static void refusals(struct site *s)
     for (size_t n = 0; n < STUDY_FAULTS; n++)
         for (int where = 0; where < 3; where++) {
             struct prng r = fresh_plain(s, 5, 7);
-            FAULTS[n](s, where);
+            FAULTS[n].make(s, where);
             hold_site("a refusal", s, &r);
         }
 }

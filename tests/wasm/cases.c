@@ -273,12 +273,12 @@ static void take_all(const struct edit *e, u64 row)
 
 static void study_faults(struct edit *e, struct prng *r)
 {
-    for (int number = 1; number <= STUDY_FAULTS; number++)
+    for (size_t i = 0; i < STUDY_FAULTS; i++)
         for (int where = 0; where < 3; where++) {
-            printf("case the fault of refusal %d\n", number);
+            printf("case the fault of refusal %d\n", FAULTS[i].number);
             start(e, r);
-            FAULTS[number - 1](&e->site, where);
-            if (number == BT_REFUSED_FULL)
+            FAULTS[i].make(&e->site, where);
+            if (FAULTS[i].number == BT_REFUSED_FULL)
                 e->found = (struct columns){ 0 }; /* which 17 does not refuse */
             take_all(e, 1);
         }

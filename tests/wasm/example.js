@@ -1,5 +1,5 @@
-// A study from JavaScript: that of tests/host/example, with the same numbers. tests/wasm/run runs this and compares what
-// it prints.
+// Two studies from JavaScript, one refused: those of tests/host/example, with the same numbers. tests/wasm/run runs
+// this and compares what it prints.
 //
 //     node tests/wasm/example.js ENGINE.wasm
 //
@@ -29,7 +29,9 @@ function record(patches, segments) {
 }
 
 const ROWS = 24;
-const rain = lend([0, 60, 150, 300, 600, 1400, 2200, 2500, 2700, 2830, 2920, 2970, 3000]);
+const entries = [0, 60, 150, 300, 600, 1400, 2200, 2500, 2700, 2830, 2920, 2970, 3000];
+const rain = lend(entries);
+const slipped = lend([...entries.slice(0, -1), 30000]); // a slipped decimal
 const subareas = lend([
     ...record([[14, 2, 800], [4, 2, 200]], [[1, 300, 200], [3, 1200, 250]]),
     ...record([[20, 3, 600]], [[1, 1500, 300]]),
@@ -40,7 +42,8 @@ const answer = lend(Array(12).fill(0));
 
 const step = 300n; // seconds
 const first = 1n; // the first row's number
-const refusal = engine.bt_study(
+const REFUSED_RISE = 19n;
+const study = (rain) => engine.bt_study(
     step, first, ...slice(rain), ...slice(subareas), ...slice(pond),
     ...slice(inflow), ...slice(outflow), ...slice(storage), answer.byteOffset,
 );
@@ -50,8 +53,15 @@ function thousandths(what, number, unit) {
     console.log(`  ${what.padEnd(16)} ${String(number / 1000n).padStart(6)}.${digits} ${unit}`);
 }
 
-if (refusal !== 0n) {
-    console.log(`the study is refused: ${answer[0]} at ${answer[1]}`);
+function refused(what) {
+    console.log(`${what} is refused: ${answer[0]} at ${answer[1]}`);
+}
+
+if (study(slipped) === REFUSED_RISE) {
+    refused("the study with a slipped decimal");
+}
+if (study(rain) !== 0n) {
+    refused("the study");
 } else {
     console.log("the study");
     thousandths("inflow", answer[2], "cubic feet");

@@ -69,7 +69,7 @@ storagesFrom h p os ss ws a = take a ss ++ storages h p (stateBefore os ss a) (d
 unfoldable pub placeGood : List ℕ → ℕ → Bool
 placeGood s k = within 1 k (recordsIn s)
 
--- document 01's order of an edit up to 13: 1 to 5, 15, 6 to 11 on the list as it stands, 6 to 11 on the altered list, 12, 13
+-- document 01's order of an edit up to 13: 1 to 5 with 19 after 3, 15, 6 to 11 on the list as it stands, 6 to 11 on the altered list, 12, 13
 abbrev pub editCheckLines : Site → Rows → ℕ → List ℕ → List Refusal
 editCheckLines x l k r =
     runLines x l

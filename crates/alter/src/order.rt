@@ -43,7 +43,7 @@ fn altered_checks(setup: Setup, subareas: &[u64], place: u64, fresh: &[u64]) -> 
     checks::list::area_check(area).or(checks::record::timing(setup, fresh, place))
 }
 
-// Refusals 1 to 5, 15, 6 to 11 on both lists, 12 and 13.
+// Refusals 1 to 5 with 19 after 3, 15, 6 to 11 on both lists, 12 and 13.
 pub fn edit_checks(
     setup: Setup,
     rain: &[u64],

@@ -1,4 +1,4 @@
--- Document 01, 'Refusal numbers and their order': 1 to 13, each a line, in lists by group. An order is read off its list, top to bottom.
+-- Document 01, 'Refusal numbers and their order': 1 to 13, and 19, each a line, in lists by group. An order is read off its list, top to bottom; '1 to 5' names the lines from 1's to 5's, so 19's too, here and in the comments of every crate.
 use mathlib.Core.Bool.{Bool, _&&_}
 use mathlib.Core.List.{List, [], _∷_, _++_, map}
 use Prim.Native.Nat.{ℕ, _+_, _-_, _%_}

@@ -1,5 +1,5 @@
-// The refusals 1 to 13 in their order, one function a number, in groups that a study, an edit and a mark compose. Rain is in
-// thousandths of an inch.
+// The refusals 1 to 13, and 19 after 3, in their order, one function a number, in groups that a study, an edit and a mark
+// compose. Rain is in thousandths of an inch.
 pub mod list;
 pub mod record;
 
@@ -9,14 +9,16 @@ use subarea::Setup;
 ghost use mathlib.Core.Path.{_≡_};
 ghost use Prim.Native.Nat.{_+_, _<_};
 ghost use lib.ListN.{length};
+ghost use lib.Dec.{leb};
 ghost use Rattle.laws.specs.Within.{within};
+ghost use Rattle.laws.specs.Limits.{mostRise};
 ghost use Rattle.pond.specs.PondRows.{rowsIn, countGood, firstBad, firstShort};
 ghost use Rattle.pond.specs.Needs.{TableOk, PondOk};
 ghost use Rattle.rows.specs.Figures.{firstForged};
 ghost use Rattle.refusals.specs.Refusals.{unless, firstOf, firstAt, firstRefusal};
 ghost use Rattle.subarea.specs.Records.{halfOf};
 ghost use Rattle.checks.specs.Site.{site, basin, found};
-ghost use Rattle.checks.specs.Order.{lengthsGood, stepGood, entriesGood, entryGood, firstEntry, riseGood, firstLeap, lastGood, recordsGood, frameLines, rainLines, runLines, pondLines, inflowLines, checkLines};
+ghost use Rattle.checks.specs.Order.{lengthsGood, stepGood, entriesGood, entryGood, firstEntry, firstLeap, lastGood, recordsGood, frameLines, rainLines, runLines, pondLines, inflowLines, checkLines};
 ghost use Rattle.checks.specs.Needs.{StepOk};
 
 // 1
@@ -87,17 +89,11 @@ fn entry_check(rain: &[u64]) -> Refusal
     Refusal::first_at(3, first_entry(rain), rain.len())
 }
 
-// Is rain entry i at most MOST_RISE above the one before? Tested by a difference, so that no sum wraps: 19 is asked of rain
-// that 3 may refuse.
-fn rise_good(rain: &[u64], i: usize) -> bool
-    requires { ⌜ i < length (now rain) ⌝ }
-    ensures { λ r. ⌜ r ≡ riseGood (now (rain .entry)) i ⌝ }
+// Is a rain entry at most MOST_RISE above the one before? Tested by a difference, so that no sum wraps: 19 is asked of rain that
+// 3 may refuse.
+fn rise_good(before: u64, own: u64) -> bool
+    ensures { λ r. ⌜ r ≡ leb own (before + mostRise) ⌝ }
 {
-    if i == 0 {
-        return true;
-    }
-    let own = rain[i];
-    let before = rain[i - 1];
     if own < before {
         return true;
     }
@@ -108,14 +104,16 @@ fn rise_good(rain: &[u64], i: usize) -> bool
 fn first_leap(rain: &[u64]) -> usize
     ensures { λ r. ⌜ r ≡ firstLeap (now (rain .entry)) ⌝ }
 {
-    let mut i = 0;
-    while i < rain.len() {
-        if !rise_good(rain, i) {
-            return i;
+    let mut before = 0;
+    let mut later = 0;
+    while later < rain.len() {
+        if !rise_good(rain[before], rain[later]) {
+            return later;
         }
-        i += 1;
+        before = later;
+        later += 1;
     }
-    i
+    later
 }
 
 // 19
@@ -162,12 +160,13 @@ pub fn frame_checks(setup: Setup, inflow: &[u64], outflow: &[u64], storage: &[u6
 fn rain_checks(rain: &[u64], m: usize) -> Refusal
     ensures { λ r. ⌜ r ≡ firstRefusal (rainLines (now (rain .entry)) m) ⌝ }
 {
-    entries_check(rain, m)
-        .or(entry_check(rain))
-        .or(rise_check(rain))
+    let count = entries_check(rain, m);
+    let entry = entry_check(rain);
+    let rise = rise_check(rain);
+    count.or(entry).or(rise)
 }
 
-// Refusals 1 to 5.
+// Refusals 1 to 5, and 19 after 3.
 pub fn run_checks(
     setup: Setup,
     rain: &[u64],
@@ -228,7 +227,7 @@ pub fn forged_check(setup: Setup, pond: &[u64], outflow: &[u64], storage: &[u64]
     Refusal::first_of(17, forged, outflow.len())
 }
 
-// Refusals 1 to 11: what a study's inflow rows need.
+// Refusals 1 to 11, and 19 after 3: what a study's inflow rows need.
 pub fn inflow_checks(
     setup: Setup,
     rain: &[u64],
@@ -246,7 +245,7 @@ pub fn inflow_checks(
     list::list_checks(setup, subareas)
 }
 
-// Refusals 1 to 13.
+// Refusals 1 to 13, and 19 after 3.
 pub fn study_checks(
     setup: Setup,
     rain: &[u64],

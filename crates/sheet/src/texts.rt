@@ -76,55 +76,41 @@ pub(crate) const REFUSED: u64 = 1;
 
 pub(crate) const PLACE: u64 = 2;
 
-// By the refusal's number: what the place counts, and the rule.
-pub(crate) const RULES: u64 = 3;
-
 // By `reading::faults`.
-pub(crate) const FAULTS: u64 = 18;
+pub(crate) const FAULTS: u64 = 3;
 
-pub(crate) const UNOPENED: u64 = 24;
+pub(crate) const UNOPENED: u64 = 9;
 
-pub(crate) const UNREAD: u64 = 25;
+pub(crate) const UNREAD: u64 = 10;
 
-pub(crate) const TOO_LONG: u64 = 26;
+pub(crate) const TOO_LONG: u64 = 11;
 
 // By `reading::items`; patches, segments and pond rows by their columns.
-pub(crate) const ITEMS: u64 = 27;
+pub(crate) const ITEMS: u64 = 12;
 
-pub(crate) const PATCH_COLUMNS: u64 = 40;
+pub(crate) const PATCH_COLUMNS: u64 = 25;
 
-pub(crate) const SEGMENT_COLUMNS: u64 = 43;
+pub(crate) const SEGMENT_COLUMNS: u64 = 28;
 
-pub(crate) const POND_COLUMNS: u64 = 46;
+pub(crate) const POND_COLUMNS: u64 = 31;
 
-pub(crate) const OF_SUBAREA: u64 = 49;
+pub(crate) const OF_SUBAREA: u64 = 34;
 
-pub(crate) const AT_MOST: u64 = 50;
+pub(crate) const AT_MOST: u64 = 35;
 
-pub(crate) const AT_MOST_ROWS: u64 = 51;
+pub(crate) const AT_MOST_ROWS: u64 = 36;
 
-pub(crate) const LINE_END: u64 = 52;
+pub(crate) const LINE_END: u64 = 37;
+
+// By the refusal's number: what the place counts, and the rule. They stand last, so that a new one moves no other text; 15 to 18
+// are no study's.
+pub(crate) const RULES: u64 = 38;
 
 // A text of standard error, with a number.
 pub(crate) fn fault(k: u64, n: u64) {
     let all = b"usage: sheet [FILE]\n\
         |Refused: number #\
         |, place #\
-        |\
-        |: the number of rows must be from 1 to 2,000\n\
-        |: the step must be an even number of seconds from 60 to 3,600\n\
-        | (rain entry; 0 also for their count): there must be 2 entries to one more than the rows, starting at 0, never falling, none above 30 inches\n\
-        |: the last row number must be at most 9,007,199,254,740,991\n\
-        |: the number of subareas must be from 1 to 16\n\
-        | (subarea): it must have 1 to 8 patches, each of cover 1 to 22, soil group 1 to 4 and 0.01 to 2,000 acres\n\
-        | (subarea): it must have 1 to 6 segments, each of kind 1 to 3, length 1 to 4,000 ft and slope or velocity 1 to 10,000\n\
-        |: all subareas together must have at most 2,000 acres\n\
-        | (subarea): its time of concentration must be at most 36,000 seconds\n\
-        | (subarea): the step must not be longer than its time to peak\n\
-        | (subarea): five times its time to peak must not be longer than 512 steps\n\
-        | (pond row; 0 for their count): there must be 2 to 64 rows within their limits, stage and storage rising, discharge never falling, the first storage and discharge 0\n\
-        | (pond row): it must store at least half a step of its discharge\n\
-        | (row): its water must not be more than the last pond row can hold and release\n\
         |\
         |: line #: this is no whole number; expected: \
         |: line #: this number is above 18,446,744,073,709,551,615; expected: \
@@ -142,7 +128,24 @@ pub(crate) fn fault(k: u64, n: u64) {
         | of subarea #\
         |, at most #\
         |, at most one more than the rows\
-        |\n";
+        |\n\
+        |\
+        |: the number of rows must be from 1 to 2,000\n\
+        |: the step must be an even number of seconds from 60 to 3,600\n\
+        | (rain entry; 0 also for their count): there must be 2 entries to one more than the rows, starting at 0, never falling, none above 30 inches\n\
+        |: the last row number must be at most 9,007,199,254,740,991\n\
+        |: the number of subareas must be from 1 to 16\n\
+        | (subarea): it must have 1 to 8 patches, each of cover 1 to 22, soil group 1 to 4 and 0.01 to 2,000 acres\n\
+        | (subarea): it must have 1 to 6 segments, each of kind 1 to 3, length 1 to 4,000 ft and slope or velocity 1 to 10,000\n\
+        |: all subareas together must have at most 2,000 acres\n\
+        | (subarea): its time of concentration must be at most 36,000 seconds\n\
+        | (subarea): the step must not be longer than its time to peak\n\
+        | (subarea): five times its time to peak must not be longer than 512 steps\n\
+        | (pond row; 0 for their count): there must be 2 to 64 rows within their limits, stage and storage rising, discharge never falling, the first storage and discharge 0\n\
+        | (pond row): it must store at least half a step of its discharge\n\
+        | (row): its water must not be more than the last pond row can hold and release\n\
+        ||||\
+        | (rain entry): it must be at most 4 inches above the one before\n";
     pictures::print(STDERR_FILENO, all, k, &[n]);
 }
 

@@ -1,11 +1,12 @@
 /*
- * A study, an edit and a chart mark, from C. tests/host/run builds this, runs it, and compares what it prints with
+ * A study that is refused, one that is not, an edit of it and its chart marks, from C. tests/host/run builds this, runs it, and compares what it prints with
  * example.txt.
  *
  *     gcc -I include tests/host/example/example.c target/staticlib/libhost.a -o example
  */
 #include <inttypes.h>
 #include <stdio.h>
+#include <string.h>
 
 #include "bridletenon.h"
 
@@ -74,6 +75,19 @@ static int refused(const char *what, const uint64_t *answer)
     return 1;
 }
 
+/* A slipped decimal: 30000 where the last entry is 3000. Entries count from 0. */
+static int slip(void)
+{
+    uint64_t slipped[RAIN], answer[BT_ANSWER_LENGTH];
+    memcpy(slipped, rain, sizeof rain);
+    slipped[RAIN - 1] = 30000;
+    if (bt_study_records(STEP, FIRST, slipped, RAIN, list, SUBAREAS, pond, POND, inflow, ROWS, outflow, ROWS, storage,
+                         ROWS, answer) != BT_REFUSED_RISE)
+        return 1;
+    refused("the study with a slipped decimal", answer);
+    return 0;
+}
+
 static int work_study(void)
 {
     uint64_t answer[BT_ANSWER_LENGTH];
@@ -118,7 +132,7 @@ static int print_mark(uint64_t row)
 
 int main(void)
 {
-    if (work_study() != 0 || build_over() != 0)
+    if (slip() != 0 || work_study() != 0 || build_over() != 0)
         return 1;
     for (uint64_t row = 1; row <= ROWS; row++)
         if (print_mark(row) != 0)
