@@ -34,7 +34,7 @@ pub record TimingOk (D Tp : ℕ) : Type 0 where
   pub coarse : D ≤ Tp
   pub short : 5 * Tp ≤ mostWeights * D
 
--- a rain within its limits: entry 0 is 0, none falls, none is above the most
+-- what 3 leaves of a rain: entry 0 is 0, none falls, none is above the most (no row needs what 19 leaves)
 pub record RainOk (rain : List ℕ) : Type 0 where
   pub least : 2 ≤ length rain
   pub first : getD rain 0 0 ≡ 0
