@@ -1,6 +1,6 @@
 /*
- * A study that is refused, one that is not, an edit of it and its chart marks, from C. tests/host/run builds this, runs it, and compares what it prints with
- * example.txt.
+ * A study that is refused, one that is not, an edit of it and its chart marks, from C. tests/host/run builds this, runs
+ * it, and compares what it prints with example.txt.
  *
  *     gcc -I include tests/host/example/example.c target/staticlib/libhost.a -o example
  */
