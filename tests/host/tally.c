@@ -3,7 +3,7 @@
 #include <inttypes.h>
 #include <stdio.h>
 
-enum { LAST_REFUSAL = 19 };
+enum { LAST_REFUSAL = BT_REFUSED_RISE };
 
 static struct {
     u64 study[LAST_REFUSAL + 1], edit[LAST_REFUSAL + 1], mark[LAST_REFUSAL + 1]; /* by refusal number, 0 for done */

@@ -1,6 +1,6 @@
 -- What the checks 1 to 13 leave, group by group. Assumes nothing.
 use mathlib.Core.Path.{_≡_}
-use mathlib.Core.Bool.{Bool, true, _&&_}
+use mathlib.Core.Bool.{true, _&&_}
 use mathlib.Core.List.{List, [], _∷_, _++_, map}
 use Prim.Native.Nat.{ℕ, _+_, _-_, _%_, _≤_, _<_}
 use native.Mathlib.Nat.{add-sub-cancel}
@@ -9,11 +9,10 @@ use borrow.Author.Tests.{eqb-true, leb-true, ne-eqb}
 use lib.Dec.{leb, eqb}
 use lib.ListN.{length, getD}
 use Rattle.laws.specs.Pick.{pick}
-use Rattle.laws.specs.Scan.{scan}
 use Rattle.laws.specs.Within.{within}
 use Rattle.laws.specs.Limits.{mostRows, leastStep, mostStep, lastNumber, mostRain, mostSubareas, mostArea}
 use Rattle.laws.proofs.Tests.{both-left, both-right, kept}
-use Rattle.laws.proofs.Scans.{scan-all, scan-most}
+use Rattle.laws.proofs.Scans.{scan-passes, scan-most}
 use Rattle.hydrograph.specs.InflowRows.{peakGood, weightsGood}
 use Rattle.hydrograph.specs.Needs.{RainOk}
 use Rattle.hydrograph.proofs.Timing.{timing-ok}
@@ -32,10 +31,6 @@ use Rattle.checks.specs.Needs.{StepOk, LengthsOk, RisesOk, RunOk, ListOk
 use Rattle.checks.proofs.Passed.{each-passes}
 
 module _ (rain : List ℕ) where
-  -- every entry passes a test that refuses none of them
-  entries : (good : ℕ → Bool) → length rain ≤ scan good (length rain) 0 → (i : ℕ) → i < length rain → good i ≡ true
-  entries good l i h = scan-all good (length rain) 0 (omega (arith, scan-most good (length rain) 0)) i (omega arith) (omega arith)
-
   entry-limit : (i : ℕ) → entryGood rain i ≡ true → getD rain i 0 ≤ mostRain
   entry-limit i e = leb-true _ _ (both-left (leb (getD rain i 0) mostRain) _ e)
 
@@ -50,7 +45,7 @@ module _ (rain : List ℕ) where
   unfolding entriesGood
   rain-ok m (count, (entry, _)) =
       let long = kept 2 (length rain) (m + 1) (charge-none 2 _ 0 count) in
-      let each = entries (entryGood rain) (first-at-none 2 (firstEntry rain) (length rain) entry) in
+      let each = scan-passes (entryGood rain) (length rain) (first-at-none 2 (firstEntry rain) (length rain) entry) in
       record {
         least = long .low;
         first = eqb-true _ _ (entry-order 0 (each 0 (omega (arith, long .low))));
@@ -61,7 +56,7 @@ module _ (rain : List ℕ) where
   -- 19 leaves a rain without a leap
   rises-ok : (m : ℕ) → AllPass (rainLines rain m) → RisesOk rain
   rises-ok m (_, (_, (leap, _))) =
-      let each = entries (riseGood rain) (first-at-none 18 (firstLeap rain) (length rain) leap) in
+      let each = scan-passes (riseGood rain) (length rain) (first-at-none 18 (firstLeap rain) (length rain) leap) in
       record { each = λ i h. leb-true _ _ (rw (add-sub-cancel i 1) at (each (i + 1) h)) }
 
 -- 5 leaves whole records

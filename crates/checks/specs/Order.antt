@@ -36,7 +36,7 @@ entryGood rain i = leb (getD rain i 0) mostRain && pick (eqb i 0) (eqb (getD rai
 abbrev pub firstEntry : List ℕ → ℕ
 firstEntry rain = scan (entryGood rain) (length rain) 0
 
--- 19 (Q-1): no entry is more than 4,000 above the one before (entry 0 has none before it: i - 1 stops at 0, and it is held to itself)
+-- 19 (Q-1): no leap, that is no entry more than 4,000 above the one before (entry 0 has none before it: i - 1 stops at 0, and it is held to itself)
 abbrev pub riseGood : List ℕ → ℕ → Bool
 riseGood rain i = leb (getD rain i 0) (getD rain (i - 1) 0 + mostRise)
 

@@ -100,7 +100,7 @@ fn rise_good(before: u64, own: u64) -> bool
     own - before <= limits::MOST_RISE
 }
 
-// The later entry of the first leap, or the number of entries.
+// The later entry of the first leap, or the number of entries. Entry 0, which has none before it, is held to itself.
 fn first_leap(rain: &[u64]) -> usize
     ensures { λ r. ⌜ r ≡ firstLeap (now (rain .entry)) ⌝ }
 {

@@ -50,6 +50,10 @@ module _ (good : ℕ → Bool) where
       go true t q more = ⊎-elim (λ w. subst (λ (z : ℕ). good z ≡ true) w t) (λ w. more (omega arith) k (omega arith) (omega arith)) (eq-or-lt-of-le lo)
       go false t q more = absurd (omega arith)
 
+  -- where a scan from 0 did not stop early, each is good
+  pub scan-passes : (n : ℕ) → n ≤ scan good n 0 → (i : ℕ) → i < n → good i ≡ true
+  scan-passes n l i h = scan-all n 0 (omega (arith, l, scan-most n 0)) i (omega arith) (omega (arith, h))
+
   -- the place found is bad
   pub scan-bad : (n i : ℕ) → scan good n i < i + n → good (scan good n i) ≡ false
   unfolding scan

@@ -1,9 +1,9 @@
--- Laws of tests: a choice by cases, and what a conjunction gives. Assumes nothing.
+-- Laws of tests: a choice by cases, what a conjunction gives, and tests that agree. Assumes nothing.
 use mathlib.Core.Path.{_≡_, refl}
 use mathlib.Core.Bool.{Bool, true, false, _&&_}
-use Prim.Native.Nat.{ℕ, _≤_}
+use Prim.Native.Nat.{ℕ, _≤_, _<_}
 use lib.Dec.{leb}
-use borrow.Author.Tests.{leb-true, le-leb}
+use borrow.Author.Tests.{leb-true, leb-false, le-leb, lt-leb}
 use Rattle.laws.specs.Pick.{pick}
 use Rattle.laws.specs.Within.{within}
 
@@ -26,6 +26,14 @@ both-right false false e = e
 -- two tests that hold hold together
 pub both-true : {a b : Bool} → a ≡ true → b ≡ true → (a && b) ≡ true
 both-true {a} {b} e f = rw (e, f)
+
+-- two tests are one where each holds exactly where the other does
+pub leb-same : (a b c d : ℕ) → (c ≤ d → a ≤ b) → (d < c → b < a) → leb a b ≡ leb c d
+leb-same a b c d holds fails = go (leb c d) refl
+  where
+    go : (t : Bool) → leb c d ≡ t → leb a b ≡ t
+    go true e = le-leb a b (holds (leb-true c d e))
+    go false e = lt-leb a b (fails (leb-false c d e))
 
 -- what a number within its limits keeps to
 pub record Kept (least x most : ℕ) : Type 0 where

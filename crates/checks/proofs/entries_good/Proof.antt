@@ -1,11 +1,11 @@
 -- `checks::entries_good` meets its contract. Assumes nothing.
-use mathlib.Core.Path.{_≡_, refl}
-use mathlib.Core.Bool.{Bool, true, false}
+use mathlib.Core.Path.{_≡_}
 use Prim.Native.Nat.{ℕ, _+_, _-_, _≤_}
 use native.Mathlib.Omega.{arith}
 use borrow.Author.Needs.{needs}
-use borrow.Author.Tests.{leb-true, leb-false, le-leb, lt-leb}
+use borrow.Author.Tests.{le-leb, lt-leb}
 use lib.Dec.{leb}
+use Rattle.laws.proofs.Tests.{leb-same}
 use Rattle.checks.proofs.entries_good.Statement.{statement}
 use Rattle.checks.proofs.entries_good.Tie as tie
 
@@ -14,11 +14,7 @@ few c = rw (lt-leb 2 (c .before .args .entries) (c .if1 .taken))
 
 -- a difference held against m is the sum held against m + 1
 moved : (n m : ℕ) → 2 ≤ n → leb (n - 1) m ≡ leb n (m + 1)
-moved n m l = go (leb n (m + 1)) refl
-  where
-    go : (b : Bool) → leb n (m + 1) ≡ b → leb (n - 1) m ≡ b
-    go true e = le-leb (n - 1) m (omega (arith, leb-true n (m + 1) e))
-    go false e = lt-leb (n - 1) m (omega (arith, leb-false n (m + 1) e))
+moved n m l = leb-same (n - 1) m n (m + 1) (λ h. omega (arith, h)) (λ h. omega (arith, h, l))
 
 enough : tie.Need-returns-2
 enough c =

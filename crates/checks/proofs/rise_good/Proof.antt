@@ -1,11 +1,12 @@
 -- `checks::rise_good` meets its contract. Assumes nothing.
-use mathlib.Core.Path.{_≡_, refl, sym}
-use mathlib.Core.Bool.{Bool, true, false}
+use mathlib.Core.Path.{_≡_, sym}
+use mathlib.Core.Bool.{true}
 use Prim.Native.Nat.{ℕ, _+_, _-_, _≤_, _<_}
 use native.Mathlib.Omega.{arith}
-use borrow.Author.Tests.{leb-true, leb-false, le-leb, lt-leb}
+use borrow.Author.Tests.{le-leb}
 use lib.Dec.{leb}
 use Rattle.laws.specs.Limits.{mostRise}
+use Rattle.laws.proofs.Tests.{leb-same}
 use Rattle.checks.proofs.rise_good.Statement.{statement}
 use Rattle.checks.proofs.rise_good.Tie as tie
 
@@ -15,11 +16,7 @@ fallen before own l = le-leb own (before + mostRise) (omega (arith, l))
 
 -- the difference tests the sum
 moved : (before own : ℕ) → before ≤ own → leb (own - before) mostRise ≡ leb own (before + mostRise)
-moved before own l = go (leb own (before + mostRise)) refl
-  where
-    go : (b : Bool) → leb own (before + mostRise) ≡ b → leb (own - before) mostRise ≡ b
-    go true e = le-leb (own - before) mostRise (omega (arith, leb-true own (before + mostRise) e))
-    go false e = lt-leb (own - before) mostRise (omega (arith, leb-false own (before + mostRise) e))
+moved before own l = leb-same (own - before) mostRise own (before + mostRise) (λ h. omega (arith, h, l)) (λ h. omega (arith, h, l))
 
 falls : tie.Need-returns
 falls c = sym (fallen _ _ (c .if1 .taken))
