@@ -1,0 +1,3 @@
+pub mod Bisect
+pub mod Powers
+pub mod Answers
