@@ -10,7 +10,7 @@
  *     many as its parameter says;
  *   - no lent list overlaps another, nor an answer;
  *   - nobody else writes to them while a call runs;
- *   - the stack has room for the call: under 34,000 bytes on x86-64, measured and not proved (docs/HOST.md, 'Stack').
+ *   - the stack has room for the call: under 36,000 bytes on x86-64, measured and not proved (docs/HOST.md, 'Stack').
  * Any numbers and any lengths may stand in them: what is out of limits is refused.
  */
 #ifndef BRIDLETENON_H
@@ -25,21 +25,54 @@ extern "C" {
 
 /* ---- What is lent */
 
+/* The number of this interface, raised with each change of a layout or of a signature. bt_interface gives that of the
+   engine that is linked: where the two differ, the host was built for another one and must not call it. */
+#define BT_INTERFACE 2
+
+uint64_t bt_interface(void);
+
 /* A subarea is a record of BT_WIDTH numbers; a list of subareas is 1 to BT_MOST_SUBAREAS records, end to end. Patches
    and segments past the record's counts are not read, and may hold anything. */
 enum {
-    BT_WIDTH = 44,
-    BT_MOST_SUBAREAS = 16,
-
-    BT_PATCH_COUNT = 0,     /* 1 to 8 */
-    BT_PATCHES = 1,         /* the first patch stands here */
+    BT_PATCH_COUNT = 0,    /* 1 to 8 */
+    BT_PATCHES = 1,        /* the first patch stands here */
     BT_MOST_PATCHES = 8,
-    BT_PATCH_WIDTH = 3,     /* cover code, soil group, area in hundredths of an acre */
+    BT_PATCH_WIDTH = 3,    /* cover code, soil group, area in hundredths of an acre */
 
-    BT_SEGMENT_COUNT = 25,  /* 1 to 6 */
-    BT_SEGMENTS = 26,       /* the first segment stands here */
+    BT_SEGMENT_COUNT = BT_PATCHES + BT_PATCH_WIDTH * BT_MOST_PATCHES, /* 1 to 6 */
+    BT_SEGMENTS = BT_SEGMENT_COUNT + 1,                               /* the first segment stands here */
     BT_MOST_SEGMENTS = 6,
-    BT_SEGMENT_WIDTH = 3    /* kind, length in feet, slope in ten-thousandths or velocity in hundredths of a ft/s */
+    BT_SEGMENT_WIDTH = 5,  /* kind, length, then up to three numbers by the kind */
+
+    BT_WIDTH = BT_SEGMENTS + BT_SEGMENT_WIDTH * BT_MOST_SEGMENTS,
+    BT_MOST_SUBAREAS = 16
+};
+
+/* Kinds of segments. A sheet segment stands first in its subarea or nowhere. */
+enum {
+    BT_SEGMENT_UNPAVED = 1, /* shallow flow over unpaved ground: slope */
+    BT_SEGMENT_PAVED = 2,   /* over paved ground: slope */
+    BT_SEGMENT_GIVEN = 3,   /* flow at a given velocity: velocity */
+    BT_SEGMENT_SHEET = 4,   /* sheet flow by Manning: n, 2-year rain, slope */
+    BT_SEGMENT_CHANNEL = 5  /* channel flow by Manning: n, hydraulic radius, slope */
+};
+
+/* Places in a segment of a flat list. Those past its kind's own are spare: they are not read, and may hold anything. */
+enum {
+    BT_KIND_AT = 0,
+    BT_LENGTH_AT = 1,
+
+    BT_SHALLOW_SLOPE_AT = 2,  /* unpaved, paved */
+
+    BT_GIVEN_VELOCITY_AT = 2,
+
+    BT_SHEET_N_AT = 2,
+    BT_SHEET_RAIN_AT = 3,
+    BT_SHEET_SLOPE_AT = 4,
+
+    BT_CHANNEL_N_AT = 2,
+    BT_CHANNEL_RADIUS_AT = 3,
+    BT_CHANNEL_SLOPE_AT = 4
 };
 
 /* The same record by the names of its numbers, which lie as the places above say: a list of either may be read as the
@@ -51,9 +84,27 @@ typedef struct bt_patch {
 } bt_patch;
 
 typedef struct bt_segment {
-    uint64_t kind;   /* 1 unpaved, 2 paved, 3 given velocity */
-    uint64_t length; /* feet, 1 to 4,000 */
-    uint64_t rate;   /* 1 to 10,000: slope in ten-thousandths, or velocity in hundredths of a foot a second */
+    uint64_t kind;   /* BT_SEGMENT_UNPAVED to BT_SEGMENT_CHANNEL */
+    uint64_t length; /* feet, 1 to 4,000, of a sheet segment 1 to 300 */
+    union {          /* the member that the kind names */
+        struct {
+            uint64_t slope;    /* ten-thousandths, 1 to 10,000 */
+        } shallow;             /* unpaved, paved */
+        struct {
+            uint64_t velocity; /* hundredths of a foot a second, 1 to 10,000 */
+        } given;
+        struct {
+            uint64_t n;        /* Manning's n in thousandths, 1 to 999 */
+            uint64_t rain;     /* the 2-year 24-hour rain in thousandths of an inch, 1 to 30,000 */
+            uint64_t slope;    /* ten-thousandths, 1 to 10,000 */
+        } sheet;
+        struct {
+            uint64_t n;        /* Manning's n in thousandths, 1 to 999 */
+            uint64_t radius;   /* hydraulic radius in hundredths of a foot, 1 to 10,000 */
+            uint64_t slope;    /* ten-thousandths, 1 to 10,000 */
+        } channel;
+        uint64_t numbers[BT_SEGMENT_WIDTH - 2]; /* all three, whatever the kind */
+    } by;
 } bt_segment;
 
 typedef struct bt_subarea {
@@ -143,7 +194,8 @@ enum {
     BT_REFUSED_ROW_NUMBERS = 4,   /* the last row number is above BT_LAST_ROW_NUMBER; 0 */
     BT_REFUSED_SUBAREAS = 5,      /* not 1 to 16 whole records; 0 */
     BT_REFUSED_PATCHES = 6,       /* a patch count, or a patch within it, out of limits; subarea */
-    BT_REFUSED_SEGMENTS = 7,      /* a segment count, or a segment within it, out of limits; subarea */
+    BT_REFUSED_SEGMENTS = 7,      /* a segment count, or a segment within it, out of limits, or a sheet segment that
+                                     does not stand first; subarea */
     BT_REFUSED_AREA = 8,          /* all areas together above 200,000; 0 */
     BT_REFUSED_TIME = 9,          /* the time of concentration is above 36,000; subarea */
     BT_REFUSED_LONG_STEP = 10,    /* the step is above the time to peak; subarea */

@@ -19,6 +19,10 @@ struct inputs {
 
 static struct inputs large, typical;
 
+/* The typical study with sheet, shallow and channel flow in each subarea; and with each of those paths replaced by one
+   segment at a given velocity that takes as long. */
+static struct inputs manning, given;
+
 /* 24 hours in steps of 180 seconds, most of the rain about noon; four subareas of 15 weights. */
 static void typical_site(struct site *s, struct prng *r)
 {
@@ -33,6 +37,33 @@ static void typical_site(struct site *s, struct prng *r)
         set_concentration(record_at(s, i), 900); /* Tp 540 */
     }
     set_pond(s, 8, 800000000, 90, 40);
+}
+
+/* Short grass, then unpaved ground, then a ditch: Tc of 904 to 954, so 15 weights again. */
+static void set_path(u64 *record, u64 i)
+{
+    const bt_segment path[] = {
+        { BT_SEGMENT_SHEET, 100 - 5 * i, .by.sheet = { .n = 150, .rain = 3600, .slope = 300 } },
+        { BT_SEGMENT_UNPAVED, 300 + 60 * i, .by.shallow = { .slope = 200 } },
+        { BT_SEGMENT_CHANNEL, 620 + 20 * i, .by.channel = { .n = 50, .radius = 96, .slope = 50 } },
+    };
+    memcpy(segment_at(record, 0), path, sizeof path);
+    record[BT_SEGMENT_COUNT] = sizeof path / sizeof *path;
+}
+
+static void manning_site(struct site *s, struct prng *r)
+{
+    typical_site(s, r);
+    for (size_t i = 0; i < subarea_count(s); i++)
+        set_path(record_at(s, i), i);
+}
+
+/* One foot a second. */
+static void give_time(u64 *record)
+{
+    bt_segment all = { BT_SEGMENT_GIVEN, reference_concentration(record), .by.given = { .velocity = 100 } };
+    memcpy(segment_at(record, 0), &all, sizeof all);
+    record[BT_SEGMENT_COUNT] = 1;
 }
 
 /* One record replaced by another with as many weights, such that the edit is done and changes much. */
@@ -56,6 +87,31 @@ static void make_inputs(struct inputs *in, struct prng *r, void (*make)(struct s
     } while (stand(&in->edit) != 0);
     ask_edit(&in->edit, r);
     in->mark = (struct mark){ in->edit.site, in->edit.found, in->edit.site.inflow };
+}
+
+static void stop(const char *why)
+{
+    fprintf(stderr, "host: %s\n", why);
+    exit(2);
+}
+
+/* The same rows, or the two cannot be compared. */
+static void make_given(void)
+{
+    given = manning;
+    for (size_t i = 0; i < subarea_count(&given.edit.site); i++)
+        give_time(record_at(&given.edit.site, i));
+    if (stand(&given.edit) != 0 || memcmp(&given.edit.found, &manning.edit.found, sizeof given.edit.found) != 0)
+        stop("a path and its time give other rows");
+}
+
+static void make_all(u64 seed)
+{
+    struct prng r = prng_of(seed, 1), same = prng_of(seed, 2), again = same;
+    make_inputs(&large, &r, large_site);
+    make_inputs(&typical, &same, typical_site);
+    make_inputs(&manning, &again, manning_site);
+    make_given();
 }
 
 /* ---- The calls. Those that are repeated leave what they are lent as they found it, or write the same again. */
@@ -146,35 +202,57 @@ static double time_of(const struct inputs *in, const struct call_of *c, int repe
     for (int i = 0; i < repeats; i++)
         c->make(in);
     double end = now();
-    if (call.gave != 0) {
-        fprintf(stderr, "host: what is timed was refused\n");
-        exit(2);
-    }
+    if (call.gave != 0)
+        stop("what is timed was refused");
     return (end - start) / repeats;
 }
 
-/* The two take turns at being first. Each round has its own ratio: a machine that slows down for a while slows both. */
+/* A call of some input. */
+struct timed {
+    const struct inputs *in;
+    const struct call_of *call;
+};
+
+/* Microseconds of two calls and what is made of each pair: a machine that slows down for a while slows both. */
+struct rounds {
+    double one[ROUNDS], other[ROUNDS], ratio[ROUNDS], less[ROUNDS];
+};
+
+/* The two take turns at being first. */
+static void take_rounds(struct rounds *t, struct timed a, struct timed b, int repeats)
+{
+    for (int i = 0; i < ROUNDS; i++) {
+        if (i % 2 == 0)
+            t->one[i] = time_of(a.in, a.call, repeats);
+        t->other[i] = time_of(b.in, b.call, repeats);
+        if (i % 2 != 0)
+            t->one[i] = time_of(a.in, a.call, repeats);
+        t->ratio[i] = t->one[i] / t->other[i];
+        t->less[i] = t->one[i] - t->other[i];
+    }
+}
+
 static void print_times(const char *what, const struct inputs *in, const struct call_of *a, const struct call_of *b,
                         int repeats)
 {
-    double one[ROUNDS], other[ROUNDS], ratio[ROUNDS];
-    for (int i = 0; i < ROUNDS; i++) {
-        if (i % 2 == 0)
-            one[i] = time_of(in, a, repeats);
-        other[i] = time_of(in, b, repeats);
-        if (i % 2 != 0)
-            one[i] = time_of(in, a, repeats);
-        ratio[i] = one[i] / other[i];
-    }
-    printf("bench: %-48s %s %8.2f us, %s %8.2f us, %.3f\n", what, a->whose, median(one), b->whose, median(other),
-           median(ratio));
+    struct rounds t;
+    take_rounds(&t, (struct timed){ in, a }, (struct timed){ in, b }, repeats);
+    printf("bench: %-48s %s %8.2f us, %s %8.2f us, %.3f\n", what, a->whose, median(t.one), b->whose, median(t.other),
+           median(t.ratio));
+}
+
+/* What the study takes longer than that of the given times, and its share of the study. */
+static void print_share(const char *what, const struct call_of *study, int repeats)
+{
+    struct rounds t;
+    take_rounds(&t, (struct timed){ &manning, study }, (struct timed){ &given, study }, repeats);
+    printf("bench: %-48s %s %8.2f us of %8.2f us, %.3f\n", what, study->whose, median(t.less), median(t.one),
+           1 - 1 / median(t.ratio));
 }
 
 void benchmark(u64 seed)
 {
-    struct prng r = prng_of(seed, 1);
-    make_inputs(&large, &r, large_site);
-    make_inputs(&typical, &r, typical_site);
+    make_all(seed);
     printf("bench: medians of %d rounds, one process, the same inputs; last, the ratio of the two\n", ROUNDS);
     print_times("a study of 16 subareas, 2,000 rows, 512 weights", &large, &STUDY, &PLAIN_STUDY, 1);
     print_times("an edit of one of the 16", &large, &EDIT, &PLAIN_EDIT, 1);
@@ -182,6 +260,10 @@ void benchmark(u64 seed)
     print_times("a study of 4 subareas, 480 rows, 15 weights", &typical, &STUDY, &PLAIN_STUDY, 20);
     print_times("an edit of one of the 4", &typical, &EDIT, &PLAIN_EDIT, 1);
     print_times("a mark of its last row", &typical, &MARK, &PLAIN_MARK, 200);
+    print_times("that study with sheet and channel segments", &manning, &STUDY, &PLAIN_STUDY, 20);
+    print_times("an edit of one of the 4", &manning, &EDIT, &PLAIN_EDIT, 1);
+    print_share("the roots of its 12 segments, of the whole study", &STUDY, 20);
+    print_share("the roots of its 12 segments, of the whole study", &PLAIN_STUDY, 20);
     print_times("an edit of one of 16, and a new study of 16", &large, &EDIT, &STUDY, 1);
     print_times("an edit of one of 4, and a new study of 4", &typical, &EDIT, &STUDY, 1);
 }

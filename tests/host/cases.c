@@ -1,6 +1,9 @@
 #include "cases.h"
 
+#include <string.h>
+
 #include "faults.h"
+#include "figures.h"
 #include "take.h"
 
 #define COUNT(a) (sizeof(a) / sizeof *(a))
@@ -102,20 +105,34 @@ static const struct field PATCH[] = {
     { "area at its limits", 2, 1, 200000 },
 };
 
-static const struct field SEGMENT[] = {
-    { "segment kind at its limits", 0, 1, 3 },
-    { "length at its limits", 1, 1, 4000 },
-    { "slope or velocity at its limits", 2, 1, 10000 },
+static const char *const SEGMENT[] = {
+    "segment kind at its limits", "length at its limits", "slope, velocity or n at its limits",
+    "rain, radius or a spare number at its limits", "slope or a spare number at its limits",
 };
+
+/* A good segment of each kind, each of its numbers at the ends; a spare one at the ends of all numbers. */
+static void segment_limits(struct site *s, u64 *segment)
+{
+    u64 was[BT_SEGMENT_WIDTH];
+    memcpy(was, segment, sizeof was);
+    for (u64 kind = BT_SEGMENT_UNPAVED; kind <= BT_SEGMENT_CHANNEL; kind++)
+        for (size_t i = 0; i < BT_SEGMENT_WIDTH; i++) {
+            struct range ends = segment_range(kind, i);
+            struct field f = { SEGMENT[i], i, ends.least, ends.most };
+            set_segment(segment, GOOD_SEGMENT[kind]);
+            at_limits(&f, s, segment + i);
+        }
+    set_segment(segment, was);
+}
 
 static void member_limits(struct site *s, u64 *record)
 {
     u64 patches = record[BT_PATCH_COUNT], segments = record[BT_SEGMENT_COUNT];
-    for (int member = 0; member < 3; member++)
-        for (size_t f = 0; f < 3; f++) {
+    for (int member = 0; member < 3; member++) {
+        for (size_t f = 0; f < COUNT(PATCH); f++)
             at_limits(&PATCH[f], s, patch_at(record, place(member, patches)) + PATCH[f].at);
-            at_limits(&SEGMENT[f], s, segment_at(record, place(member, segments)) + SEGMENT[f].at);
-        }
+        segment_limits(s, segment_at(record, place(member, segments)));
+    }
 }
 
 static void record_limits(struct site *s)
@@ -136,7 +153,7 @@ static void record_limits_of_two_sites(struct site *s, struct prng *r)
     record_limits(s);
 }
 
-/* Every kind with lengths and rates at the ends. */
+/* Kinds 1 to 3 with lengths and rates at the ends. */
 static void segment_corners(struct site *s)
 {
     static const u64 lengths[] = { 1, 2, 360, 3999, 4000 }, rates[] = { 1, 2, 100, 9999, 10000 };
@@ -150,18 +167,163 @@ static void segment_corners(struct site *s)
             }
 }
 
-static void segments_at_random(struct site *s, struct prng *r)
+/* ---- Segments' times, to the second */
+
+/* The lone site's first segment with others that make Tc 36,000, and one second more, which 9 refuses. */
+static void take_time(const char *kind, struct site *s)
+{
+    u64 *record = record_at(s, 0);
+    record[BT_SEGMENT_COUNT] = 1;
+    if (reference_list_refusal(s->step, record, BT_WIDTH).number != 0) {
+        take_study(kind, s);
+        return;
+    }
+    u64 rest = 36000 - reference_segment(segment_at(record, 0));
+    for (u64 more = 0; more < 2; more++) {
+        record[BT_SEGMENT_COUNT] = 1;
+        add_time(record, rest + more);
+        take_study(kind, s);
+    }
+}
+
+/* Each number of a sheet or channel segment at an end of its range, or beside one. */
+static void manning_corners(struct site *s)
 {
     lone_site(s);
-    set_rows(s, 30);
-    u64 *record = record_at(s, 0), *segment = segment_at(record, 0);
-    record[BT_SEGMENT_COUNT] = 1;
-    for (int i = 0; i < 1500; i++) {
-        segment[0] = between(r, 1, 2);
-        segment[1] = between(r, 1, 4000);
-        segment[2] = between(r, 1, chance(r, 50) ? 100 : 10000);
-        take_site("a shallow segment", s);
+    u64 *segment = segment_at(record_at(s, 0), 0);
+    for (u64 kind = BT_SEGMENT_SHEET; kind <= BT_SEGMENT_CHANNEL; kind++)
+        for (unsigned which = 0; which < 256; which++) { /* two bits for each number */
+            segment[BT_KIND_AT] = kind;
+            for (size_t i = 0; i < 4; i++) {
+                u64 most = segment_range(kind, BT_LENGTH_AT + i).most;
+                const u64 values[] = { 1, 2, most - 1, most };
+                segment[BT_LENGTH_AT + i] = values[which >> 2 * i & 3];
+            }
+            take_time("a sheet or channel segment at the ends", s);
+        }
+}
+
+/* Exact times, and what lies beside them: each number one less, one more. */
+static void exact_times(struct site *s)
+{
+    lone_site(s);
+    u64 *segment = segment_at(record_at(s, 0), 0);
+    for (size_t i = 0; i < EXACT_TIMES; i++)
+        for (size_t j = BT_LENGTH_AT; j < BT_SEGMENT_WIDTH; j++)
+            for (u64 more = 0; more < 3; more++) {
+                set_segment(segment, EXACT[i].segment);
+                segment[j] += more - 1;
+                take_time("a time that is exact, or nearly", s);
+            }
+}
+
+/* P2 = 10 j^2, s = q v^2 and nL = 10 q^3 v: T is 252 q^2 / j. */
+static void exact_sheet(u64 *segment, struct prng *r)
+{
+    static const u64 divisors[] = { 1, 2, 3, 4, 6, 7, 9, 12, 14, 18, 21, 28, 36, 42 }; /* of 252 */
+    u64 q = between(r, 1, 30), j = divisors[below(r, COUNT(divisors))], most = 999 / (q * q);
+    u64 v = between(r, 1, most < 31 ? most : 31);
+    set_segment(segment, (const u64[]){ BT_SEGMENT_SHEET, 10 * q, q * q * v, 10 * j * j, q * v * v });
+}
+
+/* n = 149 k, r = 100 a^3, s = 100 b^2 and L = a^2 b t: T is k t. */
+static void exact_channel(u64 *segment, struct prng *r)
+{
+    u64 k = between(r, 1, 6), a = between(r, 1, 4), b = between(r, 1, 10), t = between(r, 1, 4000 / (a * a * b));
+    set_segment(segment, (const u64[]){ BT_SEGMENT_CHANNEL, a * a * b * t, 149 * k, 100 * a * a * a, 100 * b * b });
+}
+
+static void times_at_random(struct site *s, struct prng *r)
+{
+    lone_site(s);
+    u64 *segment = segment_at(record_at(s, 0), 0);
+    for (u64 i = 0; i < 3000; i++) {
+        random_segment(segment, BT_SEGMENT_UNPAVED + i % BT_SEGMENT_CHANNEL, r);
+        take_time("a segment's time", s);
+        (i % 2 == 0 ? exact_sheet : exact_channel)(segment, r);
+        take_time("an exact time", s);
     }
+}
+
+/* One to six segments of the greatest time, channels, the first of them a channel or sheet flow. */
+static void greatest_times(struct site *s)
+{
+    static const u64 sheet[] = { BT_SEGMENT_SHEET, 300, 999, 1, 1 };
+    static const u64 channel[] = { BT_SEGMENT_CHANNEL, 4000, 999, 1, 1 };
+    lone_site(s);
+    u64 *record = record_at(s, 0);
+    for (size_t i = 0; i < BT_MOST_SEGMENTS; i++) {
+        record[BT_SEGMENT_COUNT] = i + 1;
+        set_segment(segment_at(record, i), channel);
+        take_site("channels of the greatest time", s);
+        set_segment(segment_at(record, 0), sheet);
+        take_site("sheet flow and channels of the greatest time", s);
+        set_segment(segment_at(record, 0), channel);
+    }
+}
+
+/* ---- Kinds of segments */
+
+/* Numbers that are good for every kind. */
+static void kinds(struct site *s, struct prng *r)
+{
+    static const u64 numbers[] = { BT_SEGMENT_UNPAVED, 100, 240, 3600, 100 };
+    static const u64 values[] = { 0, 1, 2, 3, 4, 5, 6, 7, 4294967300, 4294967301, 9223372036854775812u, UINT64_MAX };
+    plain_site(s, r, 5, 7);
+    for (int where = 0; where < 3; where++)
+        for (size_t i = 0; i < BT_MOST_SEGMENTS; i++) {
+            u64 *segment = segment_at(record_at(s, place(where, 5)), i), was[BT_SEGMENT_WIDTH];
+            memcpy(was, segment, sizeof was);
+            set_segment(segment, numbers);
+            for (size_t j = 0; j < COUNT(values); j++)
+                take_with("a kind of segment", s, &segment[BT_KIND_AT], values[j]);
+            set_segment(segment, was);
+        }
+}
+
+/* A sheet segment in a place, the last that is read or not; then it stands just past the count. */
+static void take_sheet_at(struct site *s, u64 *record, size_t i)
+{
+    u64 *segment = segment_at(record, i), was[BT_SEGMENT_WIDTH];
+    memcpy(was, segment, sizeof was);
+    set_segment(segment, GOOD_SEGMENT[BT_SEGMENT_SHEET]);
+    take_site("a sheet segment in a place", s);
+    take_with("a sheet segment in the last place", s, &record[BT_SEGMENT_COUNT], i + 1);
+    take_with("a sheet segment past the count", s, &record[BT_SEGMENT_COUNT], i);
+    set_segment(segment, was);
+}
+
+/* Each place, where the first segment is sheet flow and where it is not. */
+static void sheet_places(struct site *s, struct prng *r)
+{
+    static const u64 first[] = { BT_SEGMENT_CHANNEL, BT_SEGMENT_SHEET };
+    plain_site(s, r, 5, 7);
+    for (int where = 0; where < 3; where++) {
+        u64 *record = record_at(s, place(where, 5));
+        for (size_t f = 0; f < COUNT(first); f++) {
+            set_segment(segment_at(record, 0), GOOD_SEGMENT[first[f]]);
+            for (size_t i = 0; i < BT_MOST_SEGMENTS; i++)
+                take_sheet_at(s, record, i);
+        }
+    }
+}
+
+/* Both at once, in the first and in a later place; the last is what a kind that reads them would pass. */
+static void spare_numbers(struct site *s)
+{
+    const u64 values[][2] = { { 0, 0 }, { 1, 0 }, { 0, 1 }, { MOST, MOST }, { 10001, 4294967296 }, { 96, 50 } };
+    lone_site(s);
+    u64 *record = record_at(s, 0);
+    record[BT_SEGMENT_COUNT] = 2;
+    for (u64 kind = BT_SEGMENT_UNPAVED; kind <= BT_SEGMENT_GIVEN; kind++)
+        for (size_t i = 0; i < 2; i++)
+            for (size_t j = 0; j < COUNT(values); j++) {
+                u64 *segment = segment_at(record, i);
+                set_segment(segment_at(record, 1 - i), GOOD_SEGMENT[BT_SEGMENT_CHANNEL]);
+                set_segment(segment, GOOD_SEGMENT[kind]);
+                memcpy(segment + BT_SEGMENT_WIDTH - 2, values[j], sizeof values[j]);
+                take_site("spare numbers", s);
+            }
 }
 
 /* ---- Step, first row number */
@@ -237,12 +399,12 @@ static void subarea_lengths(struct site *s, struct prng *r)
     plain_site(s, r, 18, 5);
     for (size_t records = 0; records <= 18; records++)
         for (size_t more = 0; more < 5; more++) {
-            static const size_t extra[] = { 0, 1, 22, 42, 43 };
+            static const size_t extra[] = { 0, 1, BT_WIDTH / 2, BT_WIDTH - 2, BT_WIDTH - 1 };
             s->subareas.len = records * BT_WIDTH + extra[more];
             if (s->subareas.len <= 18 * BT_WIDTH)
                 take_site("length of the subareas", s);
         }
-    s->subareas.len = 48 * BT_WIDTH;
+    s->subareas.len = ROOM / BT_WIDTH * BT_WIDTH;
     take_site("length of the subareas", s);
 }
 
@@ -668,12 +830,13 @@ static void row_counts(struct site *s, struct prng *r)
 void chosen_cases(u64 seed)
 {
     static struct site s;
-    static void (*const plain[])(struct site *) = { segment_corners, means };
+    static void (*const plain[])(struct site *) = { segment_corners, manning_corners, exact_times, greatest_times,
+                                                    spare_numbers, means };
     static void (*const random[])(struct site *, struct prng *) = {
-        every_number_of_three_sites, record_limits_of_two_sites, segments_at_random, steps, first_numbers,
+        every_number_of_three_sites, record_limits_of_two_sites, times_at_random, steps, first_numbers,
         row_lengths, rain_lengths, subarea_lengths, pond_lengths, rain_entries, total_areas, concentrations, peaks,
         weights_at_random, drizzle, runoffs_at_random, pond_limits, greatest_pond, pond_storages, full_ponds,
-        close_lines, two_faults, every_fault_from_one_on, row_counts, rain_rises,
+        close_lines, two_faults, every_fault_from_one_on, row_counts, rain_rises, kinds, sheet_places,
     };
     for (size_t i = 0; i < COUNT(plain); i++) {
         s = (struct site){ 0 };

@@ -74,9 +74,10 @@ static u64 free_area(struct edit *e)
     return others >= 200000 - BT_MOST_PATCHES ? BT_MOST_PATCHES : 200000 - others;
 }
 
-static u64 *some_patch(struct edit *e, struct prng *r)
+/* Any but the kind and the length, also a spare one. */
+static u64 *segment_number(u64 *record, struct prng *r)
 {
-    return patch_at(e->fresh, below(r, e->fresh[BT_PATCH_COUNT] % 8 + 1) % 8);
+    return some_segment(record, r) + between(r, BT_LENGTH_AT + 1, BT_SEGMENT_WIDTH - 1);
 }
 
 void random_fresh(struct edit *e, struct prng *r)
@@ -84,26 +85,15 @@ void random_fresh(struct edit *e, struct prng *r)
     u64 room = free_area(e), most = chance(r, 80) ? room / 16 + BT_MOST_PATCHES : room;
     bool steady = 60 <= e->site.step && e->site.step <= 3600; /* else no path fits it */
     keep_record(e);
-    switch (below(r, steady ? 8 : 4)) {
+    switch (below(r, steady ? 9 : 5)) {
     case 0: break;
-    case 1: some_patch(e, r)[0] = between(r, 1, 22); break;
-    case 2: some_patch(e, r)[2] += chance(r, 50) ? 1 : 2; break;
-    case 3: random_patches(e->fresh, r, between(r, 1, BT_MOST_PATCHES), most); break;
-    case 4: fitting_path(&e->site, e->fresh, r); break;
+    case 1: some_patch(e->fresh, r)[0] = between(r, 1, 22); break;
+    case 2: some_patch(e->fresh, r)[2] += chance(r, 50) ? 1 : 2; break;
+    case 3: *segment_number(e->fresh, r) += between(r, 1, 20); break;
+    case 4: random_patches(e->fresh, r, between(r, 1, BT_MOST_PATCHES), most); break;
+    case 5: fitting_path(&e->site, e->fresh, r); break;
     default: fitting_record(&e->site, e->fresh, r, most); break;
     }
-}
-
-static void hostile_number(struct edit *e, struct prng *r)
-{
-    u64 *at;
-    switch (below(r, 4)) {
-    case 0: at = e->fresh + BT_PATCH_COUNT; break;
-    case 1: at = e->fresh + BT_SEGMENT_COUNT; break;
-    case 2: at = some_patch(e, r) + below(r, 3); break;
-    default: at = segment_at(e->fresh, below(r, e->fresh[BT_SEGMENT_COUNT] % 6 + 1) % 6) + below(r, 3); break;
-    }
-    *at = nasty(r, *at);
 }
 
 /* One patch that takes up all that is left, or one more, or one less. */
@@ -119,7 +109,7 @@ void hostile_fresh(struct edit *e, struct prng *r)
     switch (below(r, 4)) {
     case 0: spoil_time(&e->site, e->fresh, r); break;
     case 1: fill_area(e, r); break;
-    default: hostile_number(e, r); break;
+    default: spoil_record(e->fresh, r); break;
     }
 }
 

@@ -98,7 +98,7 @@ static void places(struct edit *e, struct prng *r)
     for (size_t i = 0; i < COUNT(counts); i++) {
         u64 count = counts[i];
         const u64 values[] = { 0,        1,         count,          count + 1, count + 2,
-                               16,       17,        44,             MOST,      MOST - 1,
+                               16,       17,        BT_WIDTH,       MOST,      MOST - 1,
                                MOST / 2, 1u << 31,  4294967296,     4294967297, 4294967296 + count,
                                MOST / 8 + 2, MOST / BT_WIDTH + 2, MOST / (8 * BT_WIDTH) + 2 };
         start_edit(e, r, count, 0);
@@ -119,28 +119,36 @@ static void fresh_numbers(struct edit *e)
     }
 }
 
-struct limits {
-    u64 least, most;
-};
-
-static void at_limits(const char *kind, struct edit *e, u64 *at, struct limits l)
+static void at_limits(const char *kind, struct edit *e, u64 *at, struct range ends)
 {
-    const u64 values[] = { l.least - 1, l.least, l.most, l.most + 1 };
+    const u64 values[] = { ends.least - 1, ends.least, ends.most, ends.most + 1 };
     for (size_t i = 0; i < COUNT(values); i++)
         take_with(kind, e, at, values[i]);
 }
 
+/* A good segment of each kind, each of its numbers at the ends. */
+static void fresh_segment_limits(struct edit *e, u64 *segment)
+{
+    u64 was[BT_SEGMENT_WIDTH];
+    memcpy(was, segment, sizeof was);
+    for (u64 kind = BT_SEGMENT_UNPAVED; kind <= BT_SEGMENT_CHANNEL; kind++)
+        for (size_t i = 0; i < BT_SEGMENT_WIDTH; i++) {
+            set_segment(segment, GOOD_SEGMENT[kind]);
+            at_limits("a segment of the new record", e, segment + i, segment_range(kind, i));
+        }
+    set_segment(segment, was);
+}
+
 static void fresh_limits(struct edit *e)
 {
-    static const struct limits patch[] = { { 1, 22 }, { 1, 4 }, { 1, 200000 } };
-    static const struct limits segment[] = { { 1, 3 }, { 1, 4000 }, { 1, 10000 } };
-    at_limits("patch count of the new record", e, &e->fresh[BT_PATCH_COUNT], (struct limits){ 1, 8 });
-    at_limits("segment count of the new record", e, &e->fresh[BT_SEGMENT_COUNT], (struct limits){ 1, 6 });
-    for (int where = 0; where < 3; where++)
-        for (size_t f = 0; f < 3; f++) {
+    static const struct range patch[] = { { 1, 22 }, { 1, 4 }, { 1, 200000 } };
+    at_limits("patch count of the new record", e, &e->fresh[BT_PATCH_COUNT], (struct range){ 1, 8 });
+    at_limits("segment count of the new record", e, &e->fresh[BT_SEGMENT_COUNT], (struct range){ 1, 6 });
+    for (int where = 0; where < 3; where++) {
+        for (size_t f = 0; f < 3; f++)
             at_limits("a patch of the new record", e, patch_at(e->fresh, place(where, 8)) + f, patch[f]);
-            at_limits("a segment of the new record", e, segment_at(e->fresh, place(where, 6)) + f, segment[f]);
-        }
+        fresh_segment_limits(e, segment_at(e->fresh, place(where, 6)));
+    }
 }
 
 static void fresh_records(struct edit *e, struct prng *r)
@@ -393,6 +401,87 @@ static void rises(struct edit *e, struct prng *r)
         }
 }
 
+/* ---- Sheet flow, and segments' numbers: held to a new study, too */
+
+static void take_from_study(const char *kind, struct edit *e)
+{
+    u64 figures[BT_ANSWER_LENGTH];
+    memcpy(figures, take_study(kind, &e->site)->answer, sizeof figures);
+    take_standing(kind, e, figures);
+}
+
+/* The same record but for its first segment, which is of this kind, and was of another. */
+static void start_first(struct edit *e, struct prng *r, int where, u64 was, u64 is)
+{
+    start_edit(e, r, 3, where);
+    set_segment(segment_at(old_record(e), 0), GOOD_SEGMENT[was]);
+    stand(e);
+    keep_record(e);
+    set_segment(segment_at(e->fresh, 0), GOOD_SEGMENT[is]);
+}
+
+/* From each kind to each: sheet flow is brought, taken away, and kept. */
+static void first_kinds(struct edit *e, struct prng *r)
+{
+    for (u64 was = BT_SEGMENT_UNPAVED; was <= BT_SEGMENT_CHANNEL; was++)
+        for (u64 is = BT_SEGMENT_UNPAVED; is <= BT_SEGMENT_CHANNEL; is++)
+            for (int where = 0; where < 3; where++) {
+                start_first(e, r, where, was, is);
+                take_from_study("the first segment's kind", e);
+            }
+}
+
+/* One number of the first segment changed by a little or by much, also a spare one: then no row changes. */
+static void segment_numbers(struct edit *e, struct prng *r)
+{
+    for (u64 kind = BT_SEGMENT_UNPAVED; kind <= BT_SEGMENT_CHANNEL; kind++)
+        for (size_t i = BT_LENGTH_AT; i < BT_SEGMENT_WIDTH; i++) {
+            start_first(e, r, (int)i % 3, kind, kind);
+            u64 *at = &segment_at(e->fresh, 0)[i], good = *at;
+            const u64 values[] = { good - 1, good + 1, good / 2, good + good / 2, segment_range(kind, i).most };
+            for (size_t j = 0; j < COUNT(values); j++) {
+                *at = values[j];
+                take_from_study("one number of a segment", e);
+            }
+        }
+}
+
+/* The old record, and a sheet segment put in before its segment i. */
+static void put_in_sheet(struct edit *e, size_t i)
+{
+    u64 *at = segment_at(e->fresh, i);
+    keep_record(e);
+    memmove(at + BT_SEGMENT_WIDTH, at, (BT_MOST_SEGMENTS - 1 - i) * BT_SEGMENT_WIDTH * sizeof *at);
+    set_segment(at, GOOD_SEGMENT[BT_SEGMENT_SHEET]);
+    e->fresh[BT_SEGMENT_COUNT]++;
+}
+
+/* Before the first it passes, before any other 7 refuses it. */
+static void sheet_places(struct edit *e, struct prng *r)
+{
+    for (int where = 0; where < 3; where++) {
+        start_first(e, r, where, BT_SEGMENT_CHANNEL, BT_SEGMENT_CHANNEL);
+        old_record(e)[BT_SEGMENT_COUNT] = BT_MOST_SEGMENTS - 1;
+        stand(e);
+        for (size_t i = 0; i < BT_MOST_SEGMENTS; i++) {
+            put_in_sheet(e, i);
+            take_from_study("a sheet segment put in", e);
+            take_with("a sheet segment past the count", e, &e->fresh[BT_SEGMENT_COUNT], i);
+        }
+    }
+}
+
+/* The list as it stands has one that is not first: refused by 7 whatever the new record is. */
+static void standing_sheets(struct edit *e, struct prng *r)
+{
+    for (int where = 0; where < 3; where++)
+        for (size_t i = 0; i < 3; i++) {
+            start_edit(e, r, 3, where);
+            set_segment(segment_at(record_at(&e->site, i), 1), GOOD_SEGMENT[BT_SEGMENT_SHEET]);
+            take_edit("a sheet segment second in the list", e);
+        }
+}
+
 /* ---- Two faults at once, in the order of an edit */
 
 static void fault_place(struct edit *e, int where)
@@ -482,7 +571,7 @@ void chosen_edits(u64 seed)
     static void (*const all[])(struct edit *, struct prng *) = {
         same_records, dry_records,   places,             fresh_records, fresh_areas,    fresh_times,
         found_rows,   order_of_rows, first_changed_rows, states_before, rows_that_meet, full_tails,
-        two_faults,   every_fault_from_one_on, rises,
+        two_faults,   every_fault_from_one_on, rises, first_kinds, segment_numbers, sheet_places, standing_sheets,
     };
     for (size_t i = 0; i < COUNT(all); i++) {
         struct prng r = prng_of(seed, 1000 + i);

@@ -50,8 +50,10 @@ static void fault_segment(struct site *s, int where)
     u64 *record = record_at(s, place(where, 5));
     if (where == 0)
         record[BT_SEGMENT_COUNT] = 0;
+    else if (where == 1)
+        segment_at(record, 0)[BT_LENGTH_AT] = 4001;
     else
-        segment_at(record, 0)[where] = where == 1 ? 4001 : 10001;
+        set_segment(segment_at(record, 1), GOOD_SEGMENT[BT_SEGMENT_SHEET]);
 }
 
 static void fault_area(struct site *s, int where)

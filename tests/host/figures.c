@@ -2,8 +2,7 @@
 
 #include <inttypes.h>
 #include <stdio.h>
-
-#include "site.h"
+#include <string.h>
 
 static int tried, wrong;
 
@@ -25,11 +24,114 @@ static void leaves(void)
     figure("C 98, p 3000", reference_runoff(98, 3000), 2768268);
     figure("C 40, p 8000", reference_runoff(40, 8000), 1250000);
     figure("C of equal areas of 61 and 74", reference_curve(record), 68);
-    figure("1,000 ft at slope 100, unpaved", reference_segment(1, 1000, 100), 619);
-    figure("1,000 ft at slope 100, paved", reference_segment(2, 1000, 100), 491);
     figure("Tp 216, D 60: weight 1", reference_weight(216, 60, 1), 170000);
     figure("Tp 216, D 60: weight 18", reference_weight(216, 60, 18), 0);
     figure("100 hundredths, depth 1,000,000", reference_volume(100, 1000000), 3630000);
+}
+
+/* ---- Travel time */
+
+static u64 time_of(u64 kind, u64 length, u64 third, u64 fourth, u64 fifth)
+{
+    const u64 segment[BT_SEGMENT_WIDTH] = { kind, length, third, fourth, fifth };
+    return reference_segment(segment);
+}
+
+static void shallow_times(void)
+{
+    figure("1,000 ft at slope 100, unpaved", time_of(BT_SEGMENT_UNPAVED, 1000, 100, 0, 0), 619);
+    figure("1,000 ft at slope 100, paved", time_of(BT_SEGMENT_PAVED, 1000, 100, 0, 0), 491);
+    figure("the same, its spare numbers not 0", time_of(BT_SEGMENT_PAVED, 1000, 100, 1, UINT64_MAX), 491);
+    figure("800 ft at 3 ft/s, its spare numbers not 0", time_of(BT_SEGMENT_GIVEN, 800, 300, UINT64_MAX, 1), 266);
+}
+
+/* TR-55 prints 0.30, 0.24 and 0.99 hours, together 1.53. The channel, of 7,300 ft, is entered as two halves. */
+static void example_of_tr55(void)
+{
+    u64 sheet = time_of(BT_SEGMENT_SHEET, 100, 240, 3600, 100), shallow = time_of(BT_SEGMENT_UNPAVED, 1400, 100, 0, 0);
+    u64 half = time_of(BT_SEGMENT_CHANNEL, 3650, 50, 96, 50);
+    figure("example 3-1 of TR-55, sheet flow", sheet, 1065);
+    figure("example 3-1 of TR-55, shallow flow", shallow, 867);
+    figure("example 3-1 of TR-55, half of the channel", half, 1779);
+    figure("example 3-1 of TR-55, hundredths of an hour", (sheet + shallow + 2 * half + 18) / 36, 153);
+}
+
+static void manning_ends(void)
+{
+    figure("the greatest time of sheet flow", time_of(BT_SEGMENT_SHEET, 300, 999, 1, 1), 3039134);
+    figure("the least time of sheet flow", time_of(BT_SEGMENT_SHEET, 1, 1, 30000, 10000), 0);
+    figure("the greatest time of a channel", time_of(BT_SEGMENT_CHANNEL, 4000, 999, 1, 1), 5777933);
+    figure("the least time of a channel", time_of(BT_SEGMENT_CHANNEL, 1, 1, 10000, 10000), 0);
+    figure("2,800 ft of a channel", time_of(BT_SEGMENT_CHANNEL, 2800, 50, 2000, 50), 180);
+}
+
+const struct timed EXACT[EXACT_TIMES] = {
+    { { BT_SEGMENT_SHEET, 10, 1, 490, 7776 }, 1 },
+    { { BT_SEGMENT_SHEET, 17, 10, 4410, 9248 }, 3 },
+    { { BT_SEGMENT_SHEET, 250, 50, 20250, 500 }, 140 },
+    { { BT_SEGMENT_SHEET, 1, 10, 10, 1 }, 252 },
+    { { BT_SEGMENT_SHEET, 100, 100, 1000, 10 }, 2520 },
+    { { BT_SEGMENT_SHEET, 300, 900, 1000, 7290 }, 2520 },
+    { { BT_SEGMENT_SHEET, 200, 400, 4000, 20 }, 5040 },
+    { { BT_SEGMENT_SHEET, 110, 121, 10, 11 }, 30492 },
+    { { BT_SEGMENT_SHEET, 290, 841, 360, 29 }, 35322 },
+    { { BT_SEGMENT_CHANNEL, 1, 149, 100, 100 }, 1 },
+    { { BT_SEGMENT_CHANNEL, 12, 149, 800, 900 }, 1 },
+    { { BT_SEGMENT_CHANNEL, 4000, 149, 6400, 10000 }, 25 },
+    { { BT_SEGMENT_CHANNEL, 3996, 298, 800, 900 }, 666 },
+    { { BT_SEGMENT_CHANNEL, 4000, 149, 100, 100 }, 4000 },
+    { { BT_SEGMENT_CHANNEL, 3600, 149, 100, 4 }, 18000 },
+    { { BT_SEGMENT_CHANNEL, 4000, 894, 100, 100 }, 24000 },
+    { { BT_SEGMENT_CHANNEL, 3600, 149, 100, 1 }, 36000 },
+    { { BT_SEGMENT_CHANNEL, 3000, 894, 100, 25 }, 36000 },
+};
+
+/* A little more rain, or radius, and the time falls short of T. */
+static void exact_times(void)
+{
+    for (size_t i = 0; i < EXACT_TIMES; i++) {
+        struct timed beside = EXACT[i];
+        figure("an exact time", reference_segment(beside.segment), beside.seconds);
+        beside.segment[3]++;
+        figure("less than it", reference_segment(beside.segment) < beside.seconds, 1);
+    }
+}
+
+/* ---- Segments that 7 refuses, those whose Tc 9 does, and spare numbers */
+
+/* Of a record whose segments are these, in their order. */
+static struct refusal refusal_of_path(const u64 (*segments)[BT_SEGMENT_WIDTH], size_t count, u64 *concentration)
+{
+    u64 record[BT_WIDTH] = { 1, 4, 1, 1, [BT_SEGMENT_COUNT] = count };
+    memcpy(record + BT_SEGMENTS, segments, count * sizeof *segments);
+    struct refusal r = reference_list_refusal(60, record, BT_WIDTH);
+    *concentration = r.number == BT_REFUSED_SEGMENTS ? 0 : reference_concentration(record);
+    return r;
+}
+
+static void sheet_places(void)
+{
+    static const u64 path[][BT_SEGMENT_WIDTH] = {
+        { BT_SEGMENT_SHEET, 100, 240, 3600, 100 },
+        { BT_SEGMENT_SHEET, 100, 240, 3600, 100 },
+        { BT_SEGMENT_UNPAVED, 1400, 100 },
+        { BT_SEGMENT_SHEET, 100, 240, 3600, 100 },
+    };
+    u64 concentration;
+    figure("sheet flow first", refusal_of_path(path + 1, 2, &concentration).number, 0);
+    figure("its Tc", concentration, 1065 + 867);
+    figure("sheet flow twice", refusal_of_path(path, 2, &concentration).number, 7);
+    figure("sheet flow second", refusal_of_path(path + 2, 2, &concentration).number, 7);
+    figure("sheet flow past the count", refusal_of_path(path + 2, 1, &concentration).number, 0);
+}
+
+static void greatest_path(void)
+{
+    u64 path[BT_MOST_SEGMENTS][BT_SEGMENT_WIDTH], concentration;
+    for (size_t i = 0; i < BT_MOST_SEGMENTS; i++)
+        set_segment(path[i], (const u64[]){ BT_SEGMENT_CHANNEL, 4000, 999, 1, 1 });
+    figure("six channels of the greatest time", refusal_of_path(path, BT_MOST_SEGMENTS, &concentration).number, 9);
+    figure("their Tc", concentration, 34667598);
 }
 
 static const u64 POND[] = { 0, 0, 0, 1000, 9000, 100 };
@@ -112,7 +214,7 @@ static void rises(void)
 
 struct small_edit {
     size_t rows;
-    u64 old_cover, new_cover;
+    u64 old_cover, new_cover, new_spare;
     u64 inflow[2], outflow[2], storage[2];
     u64 answer[BT_EDIT_ANSWER_LENGTH];
     int64_t changes[BT_CHANGES_LENGTH];
@@ -122,7 +224,7 @@ static u64 edit_small(struct small_edit *e)
 {
     static const u64 rain[] = { 0, 700 }, pond[] = { 0, 0, 0, 1000000, 1000000000000, 10000000 };
     const u64 old[BT_WIDTH] = { 1, e->old_cover, 1, 1, [BT_SEGMENT_COUNT] = 1, 3, 360, 100 };
-    const u64 fresh[BT_WIDTH] = { 1, e->new_cover, 1, 1, [BT_SEGMENT_COUNT] = 1, 3, 360, 100 };
+    const u64 fresh[BT_WIDTH] = { 1, e->new_cover, 1, 1, [BT_SEGMENT_COUNT] = 1, 3, 360, 100, e->new_spare };
     return reference_edit(60, 1, rain, 2, old, BT_WIDTH, pond, 6, e->inflow, e->rows, e->outflow, e->rows, e->storage,
                           e->rows, 1, fresh, e->answer, e->changes);
 }
@@ -140,6 +242,15 @@ static void nothing_changed(void)
     figure("its first changed row", e.answer[BT_CHANGED], 0);
     figure("its changes", (u64)(e.changes[BT_PEAK_CHANGE] | e.changes[BT_RELEASED_CHANGE]), 0);
     figure("its last row", e.storage[1], 210);
+}
+
+static void spare_changed(void)
+{
+    struct small_edit e = { .rows = 2, .old_cover = 4, .new_cover = 4, .new_spare = UINT64_MAX,
+                            .inflow = { 1000000, 1000000 }, .storage = { 5, 6 } };
+    figure("an edit that changes a spare number", edit_small(&e), 0);
+    figure("its first changed row", e.answer[BT_CHANGED], 0);
+    figure("its last row", e.storage[1], 6);
 }
 
 static void found_rows(void)
@@ -190,11 +301,18 @@ int figures_wrong(void)
 {
     tried = wrong = 0;
     leaves();
+    shallow_times();
+    example_of_tr55();
+    manning_ends();
+    exact_times();
+    sheet_places();
+    greatest_path();
     pond_rows_of_three();
     pond_ends();
     limits();
     rises();
     nothing_changed();
+    spare_changed();
     found_rows();
     marks();
     return wrong;

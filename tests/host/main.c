@@ -21,20 +21,38 @@
 #include "edits.h"
 #include "figures.h"
 #include "marks.h"
+#include "rules.h"
 #include "stack.h"
 #include "take.h"
 #include "tally.h"
 
 _Static_assert(BT_ANSWER_LENGTH == 12 && BT_EDIT_ANSWER_LENGTH == 13 && BT_CHANGES_LENGTH == 2, "answers");
 _Static_assert(BT_MARK_ANSWER_LENGTH == 3 && BT_VALUES_LENGTH == 5, "a mark's answer");
-_Static_assert(sizeof(bt_subarea) == BT_WIDTH * sizeof(u64), "a record is 44 numbers");
+_Static_assert(sizeof(bt_subarea) == BT_WIDTH * sizeof(u64), "a record");
 _Static_assert(offsetof(bt_subarea, patch_count) == BT_PATCH_COUNT * sizeof(u64), "patch count");
 _Static_assert(offsetof(bt_subarea, patches) == BT_PATCHES * sizeof(u64), "patches");
 _Static_assert(offsetof(bt_subarea, segment_count) == BT_SEGMENT_COUNT * sizeof(u64), "segment count");
 _Static_assert(offsetof(bt_subarea, segments) == BT_SEGMENTS * sizeof(u64), "segments");
 _Static_assert(sizeof(bt_patch) == BT_PATCH_WIDTH * sizeof(u64) && sizeof(bt_segment) == BT_SEGMENT_WIDTH * sizeof(u64),
                "patches and segments");
-_Static_assert(BT_SEGMENTS + BT_MOST_SEGMENTS * BT_SEGMENT_WIDTH == BT_WIDTH, "a record has 44 numbers");
+
+#define STANDS_AT(member, place) \
+    _Static_assert(offsetof(bt_segment, member) == (place) * sizeof(u64), "a segment's " #member)
+STANDS_AT(kind, BT_KIND_AT);
+STANDS_AT(length, BT_LENGTH_AT);
+STANDS_AT(by.shallow.slope, BT_SHALLOW_SLOPE_AT);
+STANDS_AT(by.given.velocity, BT_GIVEN_VELOCITY_AT);
+STANDS_AT(by.sheet.n, BT_SHEET_N_AT);
+STANDS_AT(by.sheet.rain, BT_SHEET_RAIN_AT);
+STANDS_AT(by.sheet.slope, BT_SHEET_SLOPE_AT);
+STANDS_AT(by.channel.n, BT_CHANNEL_N_AT);
+STANDS_AT(by.channel.radius, BT_CHANNEL_RADIUS_AT);
+STANDS_AT(by.channel.slope, BT_CHANNEL_SLOPE_AT);
+STANDS_AT(by.numbers[BT_SEGMENT_WIDTH - 3], BT_SEGMENT_WIDTH - 1);
+
+_Static_assert(WIDTH * sizeof(u64) == sizeof(bt_subarea) && SEGMENTS_AT * sizeof(u64) == offsetof(bt_subarea, segments),
+               "the reference's record");
+_Static_assert(ROOM >= (BT_MOST_SUBAREAS + 2) * BT_WIDTH && ROOM > BT_MOST_ROWS + 2, "room for too long a list");
 
 /* ---- Running cases. Random ones start from the number of their first case. */
 
@@ -147,6 +165,10 @@ int main(int count, char **words)
     (void)count;
     setvbuf(stdout, NULL, _IOLBF, 0);
     bool bench = read_words(words);
+    if (bt_interface() != BT_INTERFACE) {
+        printf("host: the engine's interface is %" PRIu64 ", the header's %d\n", bt_interface(), BT_INTERFACE);
+        return 1;
+    }
     call_open(&call);
     if (bench) {
         benchmark(run.seed);

@@ -4,8 +4,13 @@
 #include <string.h>
 
 typedef uint64_t u64;
+typedef unsigned __int128 u128;
 
-enum { MOST_WEIGHTS = 512 };
+enum {
+    MOST_WEIGHTS = 512,
+    WIDE_LIMBS = 4,
+    MOST_TIME = (1 << 23) - 1 /* above every time of a sheet or channel segment */
+};
 
 static const u64 MOST_AREA = 200000, MOST_INFLOW = 217800000000;
 
@@ -13,7 +18,9 @@ static const u64 MOST_AREA = 200000, MOST_INFLOW = 217800000000;
 struct job {
     u64 step, first;
     const u64 *rain, *subareas, *pond;
-    size_t rain_len, subareas_len, pond_len, rows, count; /* count: subareas, once their number is known */
+    size_t rain_len, subareas_len, pond_len, rows;
+    size_t count;                      /* subareas, once their number is known */
+    u64 area, times[BT_MOST_SUBAREAS]; /* all of it, and Tc of each, once they are within limits */
 };
 
 struct refusal {
@@ -48,13 +55,38 @@ static bool patches_good(const u64 *record)
     return true;
 }
 
+/* 1 to 'most': 0 wraps. */
+static bool within(u64 number, u64 most)
+{
+    return number - 1 < most;
+}
+
+static bool segment_good(const u64 *s, bool first)
+{
+    switch (s[BT_KIND_AT]) {
+    case BT_SEGMENT_UNPAVED:
+    case BT_SEGMENT_PAVED:
+        return within(s[BT_LENGTH_AT], 4000) && within(s[BT_SHALLOW_SLOPE_AT], 10000);
+    case BT_SEGMENT_GIVEN:
+        return within(s[BT_LENGTH_AT], 4000) && within(s[BT_GIVEN_VELOCITY_AT], 10000);
+    case BT_SEGMENT_SHEET:
+        return first && within(s[BT_LENGTH_AT], 300) && within(s[BT_SHEET_N_AT], 999) &&
+               within(s[BT_SHEET_RAIN_AT], 30000) && within(s[BT_SHEET_SLOPE_AT], 10000);
+    case BT_SEGMENT_CHANNEL:
+        return within(s[BT_LENGTH_AT], 4000) && within(s[BT_CHANNEL_N_AT], 999) &&
+               within(s[BT_CHANNEL_RADIUS_AT], 10000) && within(s[BT_CHANNEL_SLOPE_AT], 10000);
+    default:
+        return false;
+    }
+}
+
 static bool segments_good(const u64 *record)
 {
     u64 count = record[BT_SEGMENT_COUNT];
     if (count < 1 || count > BT_MOST_SEGMENTS)
         return false;
-    for (const u64 *s = record + BT_SEGMENTS, *end = s + BT_SEGMENT_WIDTH * count; s < end; s += BT_SEGMENT_WIDTH)
-        if (s[0] < 1 || s[0] > 3 || s[1] < 1 || s[1] > 4000 || s[2] < 1 || s[2] > 10000)
+    for (u64 i = 0; i < count; i++)
+        if (!segment_good(record + BT_SEGMENTS + BT_SEGMENT_WIDTH * i, i == 0))
             return false;
     return true;
 }
@@ -77,6 +109,99 @@ static u64 curve_of(const u64 *record, u64 area)
     return (2 * sum + area) / (2 * area);
 }
 
+static void add_classes(const u64 *record, u64 *answer)
+{
+    for (u64 i = 0; i < record[BT_PATCH_COUNT]; i++) {
+        const u64 *p = record + BT_PATCHES + BT_PATCH_WIDTH * i;
+        answer[p[0] <= 8 ? BT_SURFACES : p[0] <= 10 ? BT_DISTRICTS : p[0] <= 16 ? BT_LOTS : BT_RURAL] += p[2];
+    }
+}
+
+/* ---- Travel times */
+
+/* Lowest limb first. 256 bits hold both sides of a test without T, and the left one about the root. */
+struct wide {
+    u64 limb[WIDE_LIMBS];
+};
+
+/* Gives what runs over. */
+static u64 multiply(struct wide *w, u64 by)
+{
+    u128 carry = 0;
+    for (int i = 0; i < WIDE_LIMBS; i++) {
+        carry += (u128)w->limb[i] * by;
+        w->limb[i] = (u64)carry;
+        carry >>= 64;
+    }
+    return (u64)carry;
+}
+
+static struct wide product(const u64 *factors, size_t count)
+{
+    struct wide w = { { 1 } };
+    for (size_t i = 0; i < count; i++)
+        multiply(&w, factors[i]);
+    return w;
+}
+
+static double near(const struct wide *w)
+{
+    double x = 0;
+    for (int i = WIDE_LIMBS; i > 0; i--)
+        x = x * 18446744073709551616.0 + (double)w->limb[i - 1];
+    return x;
+}
+
+/* A root to be found: the largest T with T^(2 half) bottom <= top. */
+struct sides {
+    struct wide bottom, top;
+    int half;
+};
+
+/* A left side that runs over is above every right one. */
+static bool passes(const struct sides *s, u64 t)
+{
+    struct wide left = s->bottom;
+    for (int i = 0; i < s->half; i++)
+        if (multiply(&left, t * t) != 0)
+            return false;
+    for (int i = WIDE_LIMBS; i > 0; i--)
+        if (left.limb[i - 1] != s->top.limb[i - 1])
+            return left.limb[i - 1] < s->top.limb[i - 1];
+    return true;
+}
+
+/* Where to begin; any number up to MOST_TIME would do. A double's bits, read as a whole number, go about as its
+   logarithm does, so that dividing them takes a root to some per cent; then two steps by Halley, each of which makes
+   three times as many digits right. */
+static u64 guess(const struct sides *s)
+{
+    const u64 one = 0x3ff0000000000000, power = 2 * (u64)s->half;
+    double q = near(&s->top) / near(&s->bottom), n = (double)power, t;
+    u64 bits;
+    memcpy(&bits, &q, sizeof bits);
+    bits = bits / power + (one - one / power);
+    memcpy(&t, &bits, sizeof t);
+    for (int step = 0; step < 2; step++) {
+        double own = t * t;
+        for (int i = 1; i < s->half; i++)
+            own *= t * t;
+        t *= ((n - 1) * own + (n + 1) * q) / ((n + 1) * own + (n - 1) * q);
+    }
+    return t < MOST_TIME ? (u64)t : MOST_TIME;
+}
+
+/* The exact test decides. 0 passes, and nothing past MOST_TIME does. */
+static u64 wide_root(const struct sides *s)
+{
+    u64 t = guess(s);
+    while (!passes(s, t))
+        t--;
+    while (passes(s, t + 1))
+        t++;
+    return t;
+}
+
 /* No root here reaches 2^15. */
 static u64 root(u64 square)
 {
@@ -87,23 +212,51 @@ static u64 root(u64 square)
     return t;
 }
 
+static u64 shallow_time(u64 k, const u64 *s)
+{
+    u64 length = s[BT_LENGTH_AT];
+    return root(length * length * 1000000000000 / (k * k * s[BT_SHALLOW_SLOPE_AT]));
+}
+
+/* T^10 P^5 s^4 1000 <= 252^10 (n L)^8 */
+static u64 sheet_time(const u64 *s)
+{
+    const u64 c = 1016255020032; /* 252^5 */
+    u64 nl = s[BT_SHEET_N_AT] * s[BT_LENGTH_AT], p = s[BT_SHEET_RAIN_AT], slope = s[BT_SHEET_SLOPE_AT];
+    const u64 bottom[] = { p * p * p * p, 1000 * p, slope * slope * slope * slope };
+    const u64 top[] = { c, c, nl * nl * nl, nl * nl * nl, nl * nl };
+    const struct sides sides = { product(bottom, 3), product(top, 5), 5 };
+    return wide_root(&sides);
+}
+
+/* T^6 149^6 r^4 s^3 <= (n L)^6 10^14 */
+static u64 channel_time(const u64 *s)
+{
+    const u64 c = 10942526586601; /* 149^6 */
+    u64 nl = s[BT_CHANNEL_N_AT] * s[BT_LENGTH_AT], r = s[BT_CHANNEL_RADIUS_AT], slope = s[BT_CHANNEL_SLOPE_AT];
+    const u64 bottom[] = { c, r * r * r * r, slope * slope * slope };
+    const u64 top[] = { 100000000000000, nl * nl, nl * nl, nl * nl };
+    const struct sides sides = { product(bottom, 3), product(top, 4), 3 };
+    return wide_root(&sides);
+}
+
+static u64 segment_time(const u64 *s)
+{
+    switch (s[BT_KIND_AT]) {
+    case BT_SEGMENT_UNPAVED: return shallow_time(161345, s);
+    case BT_SEGMENT_PAVED: return shallow_time(203282, s);
+    case BT_SEGMENT_GIVEN: return 100 * s[BT_LENGTH_AT] / s[BT_GIVEN_VELOCITY_AT];
+    case BT_SEGMENT_SHEET: return sheet_time(s);
+    default: return channel_time(s);
+    }
+}
+
 static u64 concentration_of(const u64 *record)
 {
     u64 sum = 0;
-    for (u64 i = 0; i < record[BT_SEGMENT_COUNT]; i++) {
-        const u64 *s = record + BT_SEGMENTS + BT_SEGMENT_WIDTH * i;
-        u64 k = s[0] == 1 ? 161345 : 203282;
-        sum += s[0] == 3 ? 100 * s[1] / s[2] : root(s[1] * s[1] * 1000000000000 / (k * k * s[2]));
-    }
+    for (u64 i = 0; i < record[BT_SEGMENT_COUNT]; i++)
+        sum += segment_time(record + BT_SEGMENTS + BT_SEGMENT_WIDTH * i);
     return sum < 360 ? 360 : sum;
-}
-
-static void add_classes(const u64 *record, u64 *answer)
-{
-    for (u64 i = 0; i < record[BT_PATCH_COUNT]; i++) {
-        const u64 *p = record + BT_PATCHES + BT_PATCH_WIDTH * i;
-        answer[p[0] <= 8 ? BT_SURFACES : p[0] <= 10 ? BT_DISTRICTS : p[0] <= 16 ? BT_LOTS : BT_RURAL] += p[2];
-    }
 }
 
 /* ---- Checks 1 to 13, and 19 after 3 */
@@ -163,24 +316,20 @@ static struct refusal check_times(u64 step, const u64 *times, size_t count)
     return PASSED;
 }
 
-/* 6 to 11, with 'fresh' in the place of the record at 'at', from 0; an 'at' past the list replaces none. */
-static struct refusal check_list(const struct job *j, size_t at, const u64 *fresh)
+/* 6 to 11. */
+static struct refusal check_list(struct job *j)
 {
-    u64 times[BT_MOST_SUBAREAS], area = 0;
-    const u64 *records[BT_MOST_SUBAREAS];
     for (size_t i = 0; i < j->count; i++)
-        records[i] = i == at ? fresh : j->subareas + BT_WIDTH * i;
-    for (size_t i = 0; i < j->count; i++)
-        if (!patches_good(records[i]))
+        if (!patches_good(j->subareas + BT_WIDTH * i))
             return refused(6, i + 1);
     for (size_t i = 0; i < j->count; i++)
-        if (!segments_good(records[i]))
+        if (!segments_good(j->subareas + BT_WIDTH * i))
             return refused(7, i + 1);
     for (size_t i = 0; i < j->count; i++) {
-        area += area_of(records[i]);
-        times[i] = concentration_of(records[i]);
+        j->area += area_of(j->subareas + BT_WIDTH * i);
+        j->times[i] = concentration_of(j->subareas + BT_WIDTH * i);
     }
-    return area > MOST_AREA ? refused(8, 0) : check_times(j->step, times, j->count);
+    return j->area > MOST_AREA ? refused(8, 0) : check_times(j->step, j->times, j->count);
 }
 
 static bool pond_row_good(const u64 *row, bool first)
@@ -270,10 +419,10 @@ static u64 dot(const uint32_t *weights, const uint32_t *depths, size_t k, size_t
 }
 
 /* Adds a record's part of each row. */
-static void add_parts(const struct job *j, const u64 *record, u64 *rows)
+static void add_parts(const struct job *j, const u64 *record, u64 time, u64 *rows)
 {
     uint32_t weights[MOST_WEIGHTS], depths[BT_MOST_ROWS];
-    u64 area = area_of(record), peak = 3 * concentration_of(record) / 5, before = 0;
+    u64 area = area_of(record), peak = 3 * time / 5, before = 0;
     size_t count = 5 * peak / j->step;
     u64 total = fill_weights(peak, j->step, count, weights);
     fill_depths(j, curve_of(record, area), depths);
@@ -409,18 +558,18 @@ uint64_t plain_study(uint64_t step, uint64_t first, const uint64_t *rain, size_t
                      uint64_t *outflow, size_t outflow_len, uint64_t *storage, size_t storage_len,
                      uint64_t answer[BT_ANSWER_LENGTH])
 {
-    struct job j = { step, first, rain, subareas, pond, rain_len, subareas_len, pond_len, inflow_len, 0 };
+    struct job j = { step, first, rain, subareas, pond, rain_len, subareas_len, pond_len, .rows = inflow_len };
     struct pond p;
     struct rows rows;
     struct refusal r = check_setup(&j, inflow_len, outflow_len, storage_len);
     if (r.number == 0)
-        r = check_list(&j, BT_MOST_SUBAREAS, NULL);
+        r = check_list(&j);
     if (r.number == 0)
         r = check_pond(&j);
     if (r.number == 0) {
         memset(rows.inflow, 0, j.rows * sizeof *rows.inflow);
         for (size_t i = 0; i < j.count; i++)
-            add_parts(&j, subareas + BT_WIDTH * i, rows.inflow);
+            add_parts(&j, subareas + BT_WIDTH * i, j.times[i], rows.inflow);
         open_pond(&p, &j);
         r = route(&p, (struct state){ 0, 0 }, 0, j.rows, &rows);
     }
@@ -436,24 +585,49 @@ uint64_t plain_study(uint64_t step, uint64_t first, const uint64_t *rain, size_t
 
 /* ---- The edit */
 
+/* The new record, its place from 1, and its Tc, once it is within limits. */
+struct change {
+    u64 place;
+    const u64 *fresh;
+    u64 time;
+};
+
+static const u64 *old_record(const struct job *j, const struct change *c)
+{
+    return j->subareas + BT_WIDTH * (c->place - 1);
+}
+
+/* 6 to 11 on the altered list, after the list itself: only the new record, and all areas together, can still fail. */
+static struct refusal check_altered(const struct job *j, struct change *c)
+{
+    if (!patches_good(c->fresh))
+        return refused(6, c->place);
+    if (!segments_good(c->fresh))
+        return refused(7, c->place);
+    if (j->area - area_of(old_record(j, c)) + area_of(c->fresh) > MOST_AREA)
+        return refused(8, 0);
+    c->time = concentration_of(c->fresh);
+    struct refusal r = check_times(j->step, &c->time, 1);
+    return r.number == 0 ? PASSED : refused(r.number, c->place);
+}
+
 /* 1 to 5 with 19 after 3, 15, 6 to 11 twice, 12, 13. */
-static struct refusal check_edit(struct job *j, u64 inflow_len, u64 outflow_len, u64 storage_len, u64 place,
-                                 const u64 *fresh)
+static struct refusal check_edit(struct job *j, u64 inflow_len, u64 outflow_len, u64 storage_len, struct change *c)
 {
     struct refusal r = check_setup(j, inflow_len, outflow_len, storage_len);
-    if (r.number == 0 && (place < 1 || place > j->count))
+    if (r.number == 0 && (c->place < 1 || c->place > j->count))
         r = refused(15, 0);
     if (r.number == 0)
-        r = check_list(j, BT_MOST_SUBAREAS, NULL);
+        r = check_list(j);
     if (r.number == 0)
-        r = check_list(j, place - 1, fresh);
+        r = check_altered(j, c);
     return r.number == 0 ? check_pond(j) : r;
 }
 
-static void altered_classes(const struct job *j, u64 place, const u64 *fresh, u64 *answer)
+static void altered_classes(const struct job *j, const struct change *c, u64 *answer)
 {
     for (size_t i = 0; i < j->count; i++)
-        add_classes(i == place - 1 ? fresh : j->subareas + BT_WIDTH * i, answer);
+        add_classes(i == c->place - 1 ? c->fresh : j->subareas + BT_WIDTH * i, answer);
 }
 
 /* The rows as found, and their parts of the old record and of the new one. */
@@ -472,16 +646,16 @@ static struct refusal check_found(const struct job *j, const struct pond *p, con
 
 /* Works the parts, looks at the rows as found, and routes from the first changed row, which goes to 'from': from 0, and
    the number of rows if there is none. */
-static struct refusal work_edit(const struct job *j, const struct pond *p, struct found *f, const u64 *record,
-                                const u64 *fresh, size_t *from, struct rows *rows)
+static struct refusal work_edit(const struct job *j, const struct pond *p, const struct change *c, struct found *f,
+                                size_t *from, struct rows *rows)
 {
     memset(f->old, 0, j->rows * sizeof *f->old);
     memset(f->new, 0, j->rows * sizeof *f->new);
-    add_parts(j, record, f->old);
+    add_parts(j, old_record(j, c), j->times[c->place - 1], f->old);
     struct refusal r = check_found(j, p, f);
     if (r.number != 0)
         return r;
-    add_parts(j, fresh, f->new);
+    add_parts(j, c->fresh, c->time, f->new);
     for (*from = 0; *from < j->rows && f->old[*from] == f->new[*from];)
         ++*from;
     for (size_t k = *from; k < j->rows; k++)
@@ -498,8 +672,9 @@ uint64_t plain_edit(uint64_t step, uint64_t first, const uint64_t *rain, size_t 
                     const uint64_t fresh[BT_WIDTH], uint64_t answer[BT_EDIT_ANSWER_LENGTH],
                     int64_t changes[BT_CHANGES_LENGTH])
 {
-    struct job j = { step, first, rain, subareas, pond, rain_len, subareas_len, pond_len, inflow_len, 0 };
+    struct job j = { step, first, rain, subareas, pond, rain_len, subareas_len, pond_len, .rows = inflow_len };
     struct pond p;
+    struct change change = { place, fresh, 0 };
     struct rows rows;
     struct found found;
     size_t from = 0;
@@ -507,10 +682,10 @@ uint64_t plain_edit(uint64_t step, uint64_t first, const uint64_t *rain, size_t 
     found.inflow = inflow;
     found.outflow = outflow;
     found.storage = storage;
-    struct refusal r = check_edit(&j, inflow_len, outflow_len, storage_len, place, fresh);
+    struct refusal r = check_edit(&j, inflow_len, outflow_len, storage_len, &change);
     if (r.number == 0) {
         open_pond(&p, &j);
-        r = work_edit(&j, &p, &found, subareas + BT_WIDTH * (place - 1), fresh, &from, &rows);
+        r = work_edit(&j, &p, &change, &found, &from, &rows);
     }
     refuse(r, answer, BT_EDIT_ANSWER_LENGTH);
     changes[BT_PEAK_CHANGE] = changes[BT_RELEASED_CHANGE] = 0;
@@ -519,7 +694,7 @@ uint64_t plain_edit(uint64_t step, uint64_t first, const uint64_t *rain, size_t 
     figures(&p, inflow, outflow, storage, j.rows, old);
     write_rows(&rows, from, j.rows, inflow, outflow, storage);
     figures(&p, inflow, outflow, storage, j.rows, answer);
-    altered_classes(&j, place, fresh, answer);
+    altered_classes(&j, &change, answer);
     answer[BT_CHANGED] = from == j.rows ? 0 : from + 1;
     changes[BT_PEAK_CHANGE] = (int64_t)(answer[BT_PEAK] - old[BT_PEAK]);
     changes[BT_RELEASED_CHANGE] = (int64_t)(answer[BT_RELEASED] - old[BT_RELEASED]);

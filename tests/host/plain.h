@@ -1,7 +1,7 @@
 /*
- * The engine as a C programmer might write it who wants it quick and plain: sums of 64 bits, weights and depths worked
- * once a subarea, rows routed once. The benchmark holds the engine's time to it; every case of the test holds it to the
- * reference. Parameters and answers are those of the functions of bridletenon.h.
+ * The engine as a C programmer might write it who wants it quick and plain: sums of 64 bits, a segment's time, weights
+ * and depths worked once a subarea, rows routed once. The benchmark holds the engine's time to it; every case of the
+ * test holds it to the reference. Parameters and answers are those of the functions of bridletenon.h.
  */
 #ifndef PLAIN_H
 #define PLAIN_H

@@ -3,11 +3,12 @@
 
 #include <string.h>
 
+#include "big.h"
+
+/* Kinds of segments. */
+enum { UNPAVED = 1, PAVED, GIVEN, SHEET, CHANNEL };
+
 enum {
-    PATCHES_AT = 1,    /* after the patch count at 0 */
-    SEGMENTS_AT = 26,  /* after the segment count at 25 */
-    MOST_PATCHES = 8,
-    MOST_SEGMENTS = 6,
     MOST_WEIGHTS = 512,
     MOST_RAIN = 30000,
     MOST_RISE = 4000,
@@ -28,12 +29,12 @@ bool within(u64 x, u64 least, u64 most)
 
 static const u64 *patch(const u64 *record, u64 i)
 {
-    return record + PATCHES_AT + 3 * i;
+    return record + PATCHES_AT + PATCH_WIDTH * i;
 }
 
 static const u64 *segment(const u64 *record, u64 i)
 {
-    return record + SEGMENTS_AT + 3 * i;
+    return record + SEGMENTS_AT + SEGMENT_WIDTH * i;
 }
 
 static u64 patch_count(const u64 *record)
@@ -112,20 +113,67 @@ static u64 shallow(u64 length, u64 k, u64 slope)
     return t;
 }
 
-u64 reference_segment(u64 kind, u64 length, u64 rate)
+/* Whether t to a power, times 'low', is at most 'high'. Once it is longer, it stays so. */
+static bool power_reaches(u64 t, int power, struct big low, const struct big *high)
 {
-    if (kind == 3)
-        return 100 * length / rate;
-    return shallow(length, kind == 1 ? 161345 : 203282, rate);
+    while (power-- > 0 && low.len <= high->len)
+        big_times(&low, t);
+    return big_at_most(&low, high);
+}
+
+/* The largest whole t, made in the same way. No time comes to 2^23. */
+static u64 root(int power, const struct big *low, const struct big *high)
+{
+    u64 t = 0;
+    for (u64 digit = 1u << 22; digit > 0; digit /= 2)
+        if (power_reaches(t + digit, power, *low, high))
+            t += digit;
+    return t;
+}
+
+/* T^10 P2^5 s^4 not above 25.2^10 (nL)^8, as exact fractions. P2 and n are thousandths, s ten-thousandths and 25.2 is
+   252 tenths: the left side is over 10^31, the right one over 10^34. */
+static u64 sheet(u64 length, u64 n, u64 rain, u64 slope)
+{
+    struct big low = BIG_ONE, high = BIG_ONE;
+    big_times_power(&low, rain, 5);
+    big_times_power(&low, slope, 4);
+    big_times_power(&low, 10, 34 - 31);
+    big_times_power(&high, 252, 10);
+    big_times_power(&high, n * length, 8);
+    return root(10, &low, &high);
+}
+
+/* T^6 1.49^6 r^4 s^3 not above (nL)^6. 1.49 and r are hundredths, s ten-thousandths and n is thousandths: the left side
+   is over 10^32, the right one over 10^18. */
+static u64 channel(u64 length, u64 n, u64 radius, u64 slope)
+{
+    struct big low = BIG_ONE, high = BIG_ONE;
+    big_times_power(&low, 149, 6);
+    big_times_power(&low, radius, 4);
+    big_times_power(&low, slope, 3);
+    big_times_power(&high, n * length, 6);
+    big_times_power(&high, 10, 32 - 18);
+    return root(6, &low, &high);
+}
+
+u64 reference_segment(const u64 *segment)
+{
+    u64 length = segment[1], third = segment[2], fourth = segment[3], fifth = segment[4];
+    switch (segment[0]) {
+    case UNPAVED: return shallow(length, 161345, third);
+    case PAVED: return shallow(length, 203282, third);
+    case GIVEN: return 100 * length / third;
+    case SHEET: return sheet(length, third, fourth, fifth);
+    default: return channel(length, third, fourth, fifth);
+    }
 }
 
 u64 reference_concentration(const u64 *record)
 {
     u64 sum = 0;
-    for (u64 i = 0; i < segment_count(record); i++) {
-        const u64 *s = segment(record, i);
-        sum += reference_segment(s[0], s[1], s[2]);
-    }
+    for (u64 i = 0; i < segment_count(record); i++)
+        sum += reference_segment(segment(record, i));
     return sum < 360 ? 360 : sum;
 }
 
@@ -338,16 +386,34 @@ static bool bad_patches(const struct lent *s, const u64 *record)
     return false;
 }
 
+/* The most that each number after the kind may be; the least is 1. Those past a kind's own are spare. */
+static const u64 MOST_OF_SEGMENT[][SEGMENT_WIDTH - 1] = {
+    [UNPAVED] = { 4000, 10000 },             /* length, slope */
+    [PAVED] = { 4000, 10000 },               /* length, slope */
+    [GIVEN] = { 4000, 10000 },               /* length, velocity */
+    [SHEET] = { 300, 999, 30000, 10000 },    /* length, n, 2-year rain, slope */
+    [CHANNEL] = { 4000, 999, 10000, 10000 }, /* length, n, hydraulic radius, slope */
+};
+
+static bool bad_segment(const u64 *own, bool first)
+{
+    if (!within(own[0], UNPAVED, CHANNEL) || (own[0] == SHEET && !first))
+        return true;
+    const u64 *most = MOST_OF_SEGMENT[own[0]];
+    for (int i = 0; i < SEGMENT_WIDTH - 1 && most[i] != 0; i++)
+        if (!within(own[1 + i], 1, most[i]))
+            return true;
+    return false;
+}
+
 static bool bad_segments(const struct lent *s, const u64 *record)
 {
     (void)s;
     if (!within(segment_count(record), 1, MOST_SEGMENTS))
         return true;
-    for (u64 i = 0; i < segment_count(record); i++) {
-        const u64 *g = segment(record, i);
-        if (!within(g[0], 1, 3) || !within(g[1], 1, 4000) || !within(g[2], 1, 10000))
+    for (u64 i = 0; i < segment_count(record); i++)
+        if (bad_segment(segment(record, i), i == 0))
             return true;
-    }
     return false;
 }
 

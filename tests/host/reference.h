@@ -1,6 +1,7 @@
 /*
  * Document 01 (docs/SCOPE.md) once more, in plain C: studies, edits and marks worked from the text of the rules and
- * from nothing of the engine. Slow and plain on purpose. Whole numbers only; sums and products are 128 bits wide.
+ * from nothing of the engine. Slow and plain on purpose. Whole numbers only; sums and products are 128 bits wide, or as
+ * long as the powers of sheet and channel flow need them (big.h).
  */
 #ifndef REFERENCE_H
 #define REFERENCE_H
@@ -23,7 +24,7 @@ struct state {
 /* What document 01 names, one function each. They ask that their numbers are within its limits. */
 u64 reference_curve(const u64 *record);                     /* C of a subarea's patches */
 u64 reference_runoff(u64 curve, u64 rain);                  /* millionths of an inch */
-u64 reference_segment(u64 kind, u64 length, u64 rate);      /* seconds */
+u64 reference_segment(const u64 *segment);                  /* seconds; five numbers, spare ones not read */
 u64 reference_concentration(const u64 *record);             /* Tc */
 u64 reference_peak(u64 concentration);                      /* Tp */
 u64 reference_weight(u64 peak, u64 step, u64 j);            /* weight j */

@@ -6,8 +6,18 @@
 
 #include "reference.h"
 
+/* A subarea's record: patch count, patches, segment count, segments. */
 enum {
-    WIDTH = 44,        /* numbers in a subarea's record */
+    PATCHES_AT = 1,
+    PATCH_WIDTH = 3,
+    MOST_PATCHES = 8,
+    SEGMENTS_AT = PATCHES_AT + PATCH_WIDTH * MOST_PATCHES + 1,
+    SEGMENT_WIDTH = 5,
+    MOST_SEGMENTS = 6,
+    WIDTH = SEGMENTS_AT + SEGMENT_WIDTH * MOST_SEGMENTS
+};
+
+enum {
     MOST_SUBAREAS = 16,
     MOST_ROWS = 2000
 };

@@ -66,6 +66,21 @@ u64 *segment_at(u64 *record, size_t i)
     return record + BT_SEGMENTS + BT_SEGMENT_WIDTH * i;
 }
 
+static size_t place_read(u64 count, size_t most, struct prng *r)
+{
+    return below(r, 1 <= count && count <= most ? count : most);
+}
+
+u64 *some_patch(u64 *record, struct prng *r)
+{
+    return patch_at(record, place_read(record[BT_PATCH_COUNT], BT_MOST_PATCHES, r));
+}
+
+u64 *some_segment(u64 *record, struct prng *r)
+{
+    return segment_at(record, place_read(record[BT_SEGMENT_COUNT], BT_MOST_SEGMENTS, r));
+}
+
 u64 *pond_row_at(struct site *s, size_t i)
 {
     return s->pond.at + BT_POND_WIDTH * i;
@@ -83,15 +98,31 @@ static void set_triple(u64 *at, u64 a, u64 b, u64 c)
     at[2] = c;
 }
 
+void set_segment(u64 *at, const u64 *numbers)
+{
+    memcpy(at, numbers, BT_SEGMENT_WIDTH * sizeof *at);
+}
+
+/* What stands in its spare numbers is left there. */
+static void set_given(u64 *at, u64 length, u64 velocity)
+{
+    set_triple(at, BT_SEGMENT_GIVEN, length, velocity);
+}
+
 /* Tens of seconds at a tenth of a foot a second, then single ones at one foot a second. */
+void add_time(u64 *record, u64 seconds)
+{
+    u64 *count = &record[BT_SEGMENT_COUNT];
+    if (seconds >= 10)
+        set_given(segment_at(record, (*count)++), seconds / 10, 10);
+    if (seconds % 10 != 0)
+        set_given(segment_at(record, (*count)++), seconds % 10, 100);
+}
+
 void set_concentration(u64 *record, u64 seconds)
 {
-    u64 count = 0;
-    if (seconds >= 10)
-        set_triple(segment_at(record, count++), 3, seconds / 10, 10);
-    if (seconds % 10 != 0)
-        set_triple(segment_at(record, count++), 3, seconds % 10, 100);
-    record[BT_SEGMENT_COUNT] = count;
+    record[BT_SEGMENT_COUNT] = 0;
+    add_time(record, seconds);
 }
 
 u64 concentration_of(u64 peak)
@@ -108,6 +139,65 @@ void set_pond(struct site *s, size_t rows, u64 capacity, u64 half, u64 percent)
         u64 discharge = storage / half * percent / 100;
         set_triple(pond_row_at(s, i), 250 * i, storage, discharge < 10000000 ? discharge : 10000000);
     }
+}
+
+/* ---- Segments */
+
+const u64 GOOD_SEGMENT[BT_SEGMENT_CHANNEL + 1][BT_SEGMENT_WIDTH] = {
+    [BT_SEGMENT_UNPAVED] = { BT_SEGMENT_UNPAVED, 500, 200 },
+    [BT_SEGMENT_PAVED] = { BT_SEGMENT_PAVED, 500, 200 },
+    [BT_SEGMENT_GIVEN] = { BT_SEGMENT_GIVEN, 900, 200 },
+    [BT_SEGMENT_SHEET] = { BT_SEGMENT_SHEET, 100, 240, 3600, 100 },
+    [BT_SEGMENT_CHANNEL] = { BT_SEGMENT_CHANNEL, 900, 50, 96, 50 },
+};
+
+/* Of each number of a segment but its kind, by kind. What a kind has no range for is spare. */
+typedef const struct range ranges[BT_SEGMENT_CHANNEL + 1][BT_SEGMENT_WIDTH];
+
+static ranges ALLOWED = {
+    [BT_SEGMENT_UNPAVED] = { [BT_LENGTH_AT] = { 1, 4000 }, { 1, 10000 } },
+    [BT_SEGMENT_PAVED] = { [BT_LENGTH_AT] = { 1, 4000 }, { 1, 10000 } },
+    [BT_SEGMENT_GIVEN] = { [BT_LENGTH_AT] = { 1, 4000 }, { 1, 10000 } },
+    [BT_SEGMENT_SHEET] = { [BT_LENGTH_AT] = { 1, 300 }, { 1, 999 }, { 1, 30000 }, { 1, 10000 } },
+    [BT_SEGMENT_CHANNEL] = { [BT_LENGTH_AT] = { 1, 4000 }, { 1, 999 }, { 1, 10000 }, { 1, 10000 } },
+};
+
+static ranges USUAL = {
+    [BT_SEGMENT_UNPAVED] = { [BT_LENGTH_AT] = { 5, 1500 }, { 20, 900 } },
+    [BT_SEGMENT_PAVED] = { [BT_LENGTH_AT] = { 5, 1500 }, { 20, 900 } },
+    [BT_SEGMENT_GIVEN] = { [BT_LENGTH_AT] = { 5, 1500 }, { 20, 900 } },
+    [BT_SEGMENT_SHEET] = { [BT_LENGTH_AT] = { 20, 300 }, { 11, 400 }, { 1500, 6000 }, { 20, 900 } },
+    [BT_SEGMENT_CHANNEL] = { [BT_LENGTH_AT] = { 50, 4000 }, { 12, 150 }, { 20, 600 }, { 5, 500 } },
+};
+
+/* Six of them take 600 to 4,300 seconds. */
+static ranges PLAIN = {
+    [BT_SEGMENT_UNPAVED] = { [BT_LENGTH_AT] = { 600, 1000 }, { 150, 300 } },
+    [BT_SEGMENT_PAVED] = { [BT_LENGTH_AT] = { 600, 1000 }, { 150, 300 } },
+    [BT_SEGMENT_GIVEN] = { [BT_LENGTH_AT] = { 600, 1000 }, { 150, 300 } },
+    [BT_SEGMENT_SHEET] = { [BT_LENGTH_AT] = { 50, 100 }, { 100, 200 }, { 2500, 4000 }, { 150, 300 } },
+    [BT_SEGMENT_CHANNEL] = { [BT_LENGTH_AT] = { 600, 1000 }, { 45, 60 }, { 50, 120 }, { 150, 250 } },
+};
+
+struct range segment_range(u64 kind, size_t i)
+{
+    static const struct range kinds = { BT_SEGMENT_UNPAVED, BT_SEGMENT_CHANNEL }, any_at_all = { 0, UINT64_MAX };
+    if (i == BT_KIND_AT)
+        return kinds;
+    return ALLOWED[kind][i].most == 0 ? any_at_all : ALLOWED[kind][i];
+}
+
+/* What stands in its spare numbers is left there. */
+static void segment_within(ranges in, u64 *at, u64 kind, struct prng *r)
+{
+    at[BT_KIND_AT] = kind;
+    for (size_t i = BT_LENGTH_AT; i < BT_SEGMENT_WIDTH && in[kind][i].most != 0; i++)
+        at[i] = between(r, in[kind][i].least, in[kind][i].most);
+}
+
+void random_segment(u64 *at, u64 kind, struct prng *r)
+{
+    segment_within(chance(r, 80) ? USUAL : ALLOWED, at, kind, r);
 }
 
 /* ---- Subareas */
@@ -129,12 +219,11 @@ void random_patches(u64 *record, struct prng *r, size_t count, u64 most)
         set_triple(patch_at(record, i), between(r, 1, 22), between(r, 1, 4), alike ? same : between(r, 1, each));
 }
 
-static void random_segment(u64 *at, struct prng *r)
+/* A sheet segment only where it may stand. */
+static u64 random_kind(struct prng *r, bool first)
 {
-    u64 kind = between(r, 1, 3);
-    u64 length = chance(r, 80) ? between(r, 5, 1500) : between(r, 1, 4000);
-    u64 rate = chance(r, 80) ? between(r, 20, 900) : between(r, 1, 10000);
-    set_triple(at, kind, length, rate);
+    static const u64 others[] = { BT_SEGMENT_UNPAVED, BT_SEGMENT_PAVED, BT_SEGMENT_GIVEN, BT_SEGMENT_CHANNEL };
+    return first && chance(r, 40) ? BT_SEGMENT_SHEET : others[below(r, 4)];
 }
 
 /* Segments whose times together lie between the two bounds, or near them. */
@@ -143,8 +232,8 @@ static void random_path(u64 *record, struct prng *r, u64 least, u64 most)
     u64 total = 0, count = 0, tries = between(r, 1, 5);
     while (tries-- > 0) {
         u64 *at = segment_at(record, count);
-        random_segment(at, r);
-        u64 time = reference_segment(at[0], at[1], at[2]);
+        random_segment(at, random_kind(r, count == 0), r);
+        u64 time = reference_segment(at);
         if (total + time > most)
             continue;
         total += time;
@@ -153,11 +242,21 @@ static void random_path(u64 *record, struct prng *r, u64 least, u64 most)
     if (count == 0 || total < least) {
         u64 rest = between(r, total < least ? least - total : 0, most - total);
         if (rest < 4000)
-            set_triple(segment_at(record, count++), 3, rest + 1, 100);
+            set_given(segment_at(record, count++), rest + 1, 100);
         else
-            set_triple(segment_at(record, count++), 3, rest / 10, 10);
+            set_given(segment_at(record, count++), rest / 10, 10);
     }
     record[BT_SEGMENT_COUNT] = count;
+}
+
+/* So many seconds, the first of them by a segment of any kind where its time leaves room. */
+static void random_path_of(u64 *record, struct prng *r, u64 seconds)
+{
+    u64 *first = segment_at(record, 0);
+    random_segment(first, random_kind(r, true), r);
+    u64 time = reference_segment(first);
+    record[BT_SEGMENT_COUNT] = time <= seconds;
+    add_time(record, time <= seconds ? seconds - time : seconds);
 }
 
 /* Tc such that D <= Tp, and 5 Tp <= 512 D. */
@@ -286,7 +385,7 @@ void plain_site(struct site *s, struct prng *r, size_t count, size_t rows)
     for (size_t i = 0; i < count; i++) {
         random_patches(record_at(s, i), r, BT_MOST_PATCHES, 100000 / count);
         for (size_t j = 0; j < BT_MOST_SEGMENTS; j++)
-            set_triple(segment_at(record_at(s, i), j), between(r, 1, 3), between(r, 600, 1000), between(r, 150, 300));
+            segment_within(PLAIN, segment_at(record_at(s, i), j), random_kind(r, j == 0), r);
         record_at(s, i)[BT_SEGMENT_COUNT] = BT_MOST_SEGMENTS;
     }
     set_pond(s, rows, all_water(s) * 2, 1800, 100);
@@ -322,7 +421,7 @@ void large_site(struct site *s, struct prng *r)
     random_rain(s, r, chance(r, 50) ? BT_MOST_ROWS : between(r, 200, BT_MOST_ROWS), between(r, 2000, 30000));
     random_subareas(s, r, BT_MOST_SUBAREAS, 200000);
     for (size_t i = 0; i < BT_MOST_SUBAREAS; i++)
-        set_concentration(record_at(s, i), between(r, 10240, 10241)); /* Tp 6,144 */
+        random_path_of(record_at(s, i), r, between(r, 10240, 10241)); /* Tp 6,144 */
     random_pond(s, r, BT_MOST_POND_ROWS, all_water(s) * between(r, 20, 130) / 100);
 }
 
@@ -331,8 +430,8 @@ void large_site(struct site *s, struct prng *r)
 u64 nasty(struct prng *r, u64 was)
 {
     static const u64 edges[] = {
-        0, 1, 2, 3, 4, 6, 7, 8, 9, 16, 22, 60, 360, 512, 2000, 3600, 4000, 10000, 30000, 36000, 200000, 1000000,
-        10000000, 4294967296, 217800000000, 1000000000000, 9007199254740991, 9223372036854775807, UINT64_MAX,
+        0, 1, 2, 3, 4, 6, 7, 8, 9, 16, 22, 60, 300, 360, 512, 999, 2000, 3600, 4000, 10000, 30000, 36000, 200000,
+        1000000, 10000000, 4294967296, 217800000000, 1000000000000, 9007199254740991, 9223372036854775807, UINT64_MAX,
     };
     switch (below(r, 6)) {
     case 0: return was + 1;
@@ -351,19 +450,31 @@ static void spoil_number(struct list *l, struct prng *r)
     *at = nasty(r, *at);
 }
 
-/* One of the counts, or a patch or a segment that is read. */
-static void spoil_record(struct site *s, struct prng *r)
+/* One of the counts, or a number of a patch or of a segment; of a segment also a spare one. */
+static u64 *some_number(u64 *record, struct prng *r)
 {
-    if (subarea_count(s) == 0)
-        return;
-    u64 *record = record_at(s, below(r, subarea_count(s))), *at;
     switch (below(r, 4)) {
-    case 0: at = record + BT_PATCH_COUNT; break;
-    case 1: at = record + BT_SEGMENT_COUNT; break;
-    case 2: at = patch_at(record, below(r, record[BT_PATCH_COUNT] % 8 + 1) % 8) + below(r, 3); break;
-    default: at = segment_at(record, below(r, record[BT_SEGMENT_COUNT] % 6 + 1) % 6) + below(r, 3); break;
+    case 0: return record + BT_PATCH_COUNT;
+    case 1: return record + BT_SEGMENT_COUNT;
+    case 2: return some_patch(record, r) + below(r, BT_PATCH_WIDTH);
+    default: return some_segment(record, r) + below(r, BT_SEGMENT_WIDTH);
     }
+}
+
+void spoil_record(u64 *record, struct prng *r)
+{
+    if (chance(r, 15)) {
+        random_segment(some_segment(record, r), BT_SEGMENT_SHEET, r); /* a good one, but perhaps not first */
+        return;
+    }
+    u64 *at = some_number(record, r);
     *at = nasty(r, *at);
+}
+
+static void spoil_some_record(struct site *s, struct prng *r)
+{
+    if (subarea_count(s) != 0)
+        spoil_record(record_at(s, below(r, subarea_count(s))), r);
 }
 
 /* Makes a number the same as its like in the row before, or trades the two. */
@@ -451,7 +562,7 @@ static void spoil(struct site *s, struct prng *r)
     case 7:
     case 8: spoil_fit(s, r); break;
     case 9: spoil_rise(s, r); break;
-    default: spoil_record(s, r); break;
+    default: spoil_some_record(s, r); break;
     }
 }
 

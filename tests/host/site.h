@@ -27,6 +27,10 @@ struct columns {
     u64 inflow[ROOM], outflow[ROOM], storage[ROOM];
 };
 
+struct range {
+    u64 least, most;
+};
+
 /* ---- Random numbers (splitmix64) */
 
 struct prng {
@@ -48,9 +52,13 @@ size_t pond_rows(const struct site *s);
 u64 *record_at(struct site *s, size_t i);
 u64 *patch_at(u64 *record, size_t i);
 u64 *segment_at(u64 *record, size_t i);
+u64 *some_patch(u64 *record, struct prng *r);        /* one that is read, where the count is good */
+u64 *some_segment(u64 *record, struct prng *r);
 u64 *pond_row_at(struct site *s, size_t i);
 void set_rows(struct site *s, size_t m);             /* the length of all three row lists */
-void set_concentration(u64 *record, u64 seconds);    /* one or two segments of kind 3 */
+void set_segment(u64 *at, const u64 *numbers);       /* all five of its numbers */
+void add_time(u64 *record, u64 seconds);             /* one or two segments of a given velocity, after those it has */
+void set_concentration(u64 *record, u64 seconds);    /* the same, and no others */
 u64 concentration_of(u64 peak);                      /* the least Tc whose Tp is at least this */
 void set_pond(struct site *s, size_t rows, u64 capacity, u64 half, u64 percent);
 u64 total_area(const struct site *s);
@@ -60,15 +68,21 @@ u64 total_area(const struct site *s);
 void pour(struct site *s, u64 total);
 void set_rise(struct site *s, size_t t, u64 rise);
 
-/* Parts of a good record: litter past the counts, patches of an area together at most 'most', a path that 9 to 11 allow
-   with the site's step. */
+/* Segments by kind: one that passes, with nothing in its spare numbers; and what number i may be, also a spare one. */
+extern const u64 GOOD_SEGMENT[BT_SEGMENT_CHANNEL + 1][BT_SEGMENT_WIDTH];
+struct range segment_range(u64 kind, size_t i);
+void random_segment(u64 *at, u64 kind, struct prng *r); /* within those ranges; what stands in spare numbers stays */
+
+/* Parts of a good record: litter past the counts and in spare numbers, patches of an area together at most 'most', a
+   path that 9 to 11 allow with the site's step. */
 void litter(u64 *record, struct prng *r);
 void random_patches(u64 *record, struct prng *r, size_t count, u64 most);
 void fitting_path(const struct site *s, u64 *record, struct prng *r);
 void fitting_record(const struct site *s, u64 *record, struct prng *r, u64 most); /* all three */
 
-/* A Tc near one that the site's step, or 36,000, forbids. */
+/* A Tc near one that the site's step, or 36,000, forbids; one number, or a sheet segment's place, spoilt. */
 void spoil_time(const struct site *s, u64 *record, struct prng *r);
+void spoil_record(u64 *record, struct prng *r);
 
 /* ---- Whole sites */
 

@@ -13,6 +13,8 @@ static struct {
     u64 row[LAST_REFUSAL + 1][3]; /* edits refused at a row: before the first changed, from it on, with none changed */
     u64 records[3];               /* studies of whole records: none, 1 to 16, more */
     u64 early[2];                 /* of more: refused before 5, with 5 */
+    u64 segments[BT_SEGMENT_CHANNEL + 1]; /* of done studies, by kind */
+    u64 sheet[4];                 /* done edits: no sheet segment, one taken away, one brought, one kept */
     u64 kind[3];                  /* marks that are nothing, an outflow, a peak */
     u64 asked[2];                 /* marks refused with 17 at the row asked, at another */
 } tally;
@@ -27,11 +29,19 @@ static void count_records(const struct site *s, const struct result *due)
         tally.early[due->gave == BT_REFUSED_SUBAREAS]++;
 }
 
+static void count_segments(const u64 *record)
+{
+    for (u64 i = 0; i < record[BT_SEGMENT_COUNT]; i++)
+        tally.segments[record[BT_SEGMENTS + BT_SEGMENT_WIDTH * i]]++;
+}
+
 void count_study(const struct site *s, const struct result *due)
 {
     u64 row = due->answer[BT_PLACE];
     count_records(s, due);
     tally.study[due->gave]++;
+    for (size_t i = 0; due->gave == 0 && i < subarea_count(s); i++)
+        count_segments(s->subareas.at + BT_WIDTH * i);
     if (due->gave == BT_REFUSED_FULL)
         tally.full[row == 1 ? 0 : row < s->inflow ? 1 : 2]++;
 }
@@ -60,12 +70,24 @@ static bool list_passes(const struct site *s)
     return reference_list_refusal(s->step, s->subareas.at, s->subareas.len).number == 0;
 }
 
+static bool has_sheet(const u64 *record)
+{
+    return record[BT_SEGMENTS] == BT_SEGMENT_SHEET;
+}
+
+static void count_done(const struct edit *e, const struct result *due)
+{
+    bool was = has_sheet(e->site.subareas.at + BT_WIDTH * (e->place - 1)), is = has_sheet(e->fresh);
+    tally.done[due->answer[BT_CHANGED] < 2 ? due->answer[BT_CHANGED] : 2]++;
+    tally.sheet[was + 2 * is]++;
+}
+
 void count_edit(const struct edit *e, const struct result *due)
 {
     u64 n = due->gave;
     tally.edit[n]++;
     if (n == 0)
-        tally.done[due->answer[BT_CHANGED] < 2 ? due->answer[BT_CHANGED] : 2]++;
+        count_done(e, due);
     if (BT_REFUSED_PATCHES <= n && n <= BT_REFUSED_SHORT_STEP && list_passes(&e->site))
         tally.fresh[n]++;
     if (n == BT_REFUSED_FULL || n == BT_REFUSED_INFLOW || n == BT_REFUSED_STANDING)
@@ -142,6 +164,7 @@ static void print_counts(const char *what, const u64 *counts, int count)
 static void print_edits(void)
 {
     print_counts("edits done, none changed, from row 1, from a later row", tally.done, 3);
+    print_counts("edits done, with no sheet segment, one taken away, one brought, one kept", tally.sheet, 4);
     print_counts("edits refused for the altered list alone, 6 to 11", tally.fresh + BT_REFUSED_PATCHES, 6);
     print_counts("14 in the tail", tally.row[BT_REFUSED_FULL] + 1, 1);
     print_counts("16 before the first changed row, from it on, where none is", tally.row[BT_REFUSED_INFLOW], 3);
@@ -153,6 +176,7 @@ bool print_tally(void)
     all = true;
     print_ends();
     print_counts("14 of studies at the first row, between, the last", tally.full, 3);
+    print_counts("segments of done studies, kinds 1 to 5", tally.segments + BT_SEGMENT_UNPAVED, BT_SEGMENT_CHANNEL);
     print_counts("studies of no record, of 1 to 16, of more", tally.records, 3);
     print_counts("of more, refused before 5, with 5", tally.early, 2);
     print_edits();

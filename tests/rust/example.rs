@@ -1,5 +1,5 @@
-// Two studies from Rust, one refused: those of tests/host/example, with the same numbers. tests/rust/run compiles this,
-// runs it, and compares what it prints.
+// Three studies from Rust, one refused: those of tests/host/example, with the same numbers; what is altered there by an
+// edit is here a new study. tests/rust/run compiles this, runs it, and compares what it prints.
 //
 //     rustc --edition 2021 -O -L target/staticlib tests/rust/example.rs -o example
 //
@@ -13,24 +13,55 @@ struct Patch {
     area: u64,
 }
 
+/// What stands past the length is by the kind; what a kind does not need is spare.
 #[derive(Clone, Copy, Default)]
 #[repr(C)]
 struct Segment {
     kind: u64,
     length: u64,
-    rate: u64,
+    by: [u64; 3],
 }
 
+impl Segment {
+    fn unpaved(length: u64, slope: u64) -> Segment {
+        Segment { kind: 1, length, by: [slope, 0, 0] }
+    }
+
+    fn paved(length: u64, slope: u64) -> Segment {
+        Segment { kind: 2, length, by: [slope, 0, 0] }
+    }
+
+    fn given(length: u64, velocity: u64) -> Segment {
+        Segment { kind: 3, length, by: [velocity, 0, 0] }
+    }
+
+    fn sheet(length: u64, n: u64, rain: u64, slope: u64) -> Segment {
+        Segment { kind: 4, length, by: [n, rain, slope] }
+    }
+
+    fn channel(length: u64, n: u64, radius: u64, slope: u64) -> Segment {
+        Segment { kind: 5, length, by: [n, radius, slope] }
+    }
+}
+
+const MOST_PATCHES: usize = 8;
+const MOST_SEGMENTS: usize = 6;
+
+#[derive(Clone, Copy)]
 #[repr(C)]
 struct Subarea {
     patch_count: u64,
-    patches: [Patch; 8],
+    patches: [Patch; MOST_PATCHES],
     segment_count: u64,
-    segments: [Segment; 6],
+    segments: [Segment; MOST_SEGMENTS],
 }
+
+/// The interface that the structs and functions here are declared for.
+const INTERFACE: u64 = 2;
 
 #[link(name = "host", kind = "static")]
 extern "C" {
+    fn bt_interface() -> u64;
     fn bt_study_records(
         step: u64, first: u64,
         rain: *const u64, rain_len: usize,
@@ -87,9 +118,9 @@ fn study(site: &Site, rows: &mut Rows) -> Result<[u64; 12], (u64, u64)> {
 fn subarea(patches: &[Patch], segments: &[Segment]) -> Subarea {
     let mut own = Subarea {
         patch_count: patches.len() as u64,
-        patches: [Patch::default(); 8],
+        patches: [Patch::default(); MOST_PATCHES],
         segment_count: segments.len() as u64,
-        segments: [Segment::default(); 6],
+        segments: [Segment::default(); MOST_SEGMENTS],
     };
     own.patches[..patches.len()].copy_from_slice(patches);
     own.segments[..segments.len()].copy_from_slice(segments);
@@ -100,8 +131,8 @@ fn thousandths(what: &str, number: u64, unit: &str) {
     println!("  {what:<16} {:6}.{:03} {unit}", number / 1000, number % 1000);
 }
 
-fn print_figures(answer: &[u64; 12]) {
-    println!("the study");
+fn print_figures(what: &str, answer: &[u64; 12]) {
+    println!("{what}");
     thousandths("inflow", answer[2], "cubic feet");
     thousandths("released", answer[3], "cubic feet");
     thousandths("stored", answer[4], "cubic feet");
@@ -110,14 +141,28 @@ fn print_figures(answer: &[u64; 12]) {
     thousandths("greatest stage", answer[7], "ft");
 }
 
+fn print_study(what: &str, result: Result<[u64; 12], (u64, u64)>) {
+    match result {
+        Ok(answer) => print_figures(what, &answer),
+        Err((number, place)) => println!("{what} is refused: {number} at {place}"),
+    }
+}
+
 fn main() {
+    // SAFETY: it takes nothing, and its signature is the same in every interface.
+    let interface = unsafe { bt_interface() };
+    assert_eq!(interface, INTERFACE, "the engine has another interface than this was written for");
     let lots = subarea(
         &[Patch { cover: 14, soil: 2, area: 800 }, Patch { cover: 4, soil: 2, area: 200 }],
-        &[Segment { kind: 1, length: 300, rate: 200 }, Segment { kind: 3, length: 1200, rate: 250 }],
+        &[Segment::unpaved(300, 200), Segment::given(1200, 250)],
     );
     let woods = subarea(
         &[Patch { cover: 20, soil: 3, area: 600 }],
-        &[Segment { kind: 1, length: 1500, rate: 300 }],
+        &[Segment::unpaved(1500, 300)],
+    );
+    let built = subarea(
+        &[Patch { cover: 12, soil: 3, area: 500 }, Patch { cover: 20, soil: 3, area: 100 }],
+        &[Segment::sheet(100, 150, 3600, 200), Segment::paved(1400, 300), Segment::channel(400, 30, 80, 100)],
     );
     let site = Site {
         step: 300,
@@ -126,16 +171,15 @@ fn main() {
         list: &[lots, woods],
         pond: &[0, 0, 0, 1000, 12000000, 2000, 2000, 30000000, 9000, 4000, 90000000, 20000],
     };
-    let mut rows = Rows { inflow: vec![0; 24], outflow: vec![0; 24], storage: vec![0; 24] };
     let slipped = Site {
         rain: &[0, 60, 150, 300, 600, 1400, 2200, 2500, 2700, 2830, 2920, 2970, 30000], // a slipped decimal
         ..site
     };
+    let altered = Site { list: &[lots, built], ..site };
+    let mut rows = Rows { inflow: vec![0; 24], outflow: vec![0; 24], storage: vec![0; 24] };
     if let Err((REFUSED_RISE, place)) = study(&slipped, &mut rows) {
         println!("the study with a slipped decimal is refused: {REFUSED_RISE} at {place}");
     }
-    match study(&site, &mut rows) {
-        Ok(answer) => print_figures(&answer),
-        Err((number, place)) => println!("the study is refused: {number} at {place}"),
-    }
+    print_study("the study", study(&site, &mut rows));
+    print_study("with the second subarea built over", study(&altered, &mut rows));
 }

@@ -44,31 +44,54 @@ static u64 least_of(u64 a, u64 b)
     return a < b ? a : b;
 }
 
-/* Triples of a record, their columns named. Past the limit of the count nothing is read. */
-static void triples(struct file *f, const u64 *at, u64 n, const char *const *columns, const char *of, size_t subarea)
+/* A number of a patch or of a segment, by its column. */
+static void part(struct file *f, u64 value, const char *column, const char *of, u64 i, size_t subarea)
 {
-    for (u64 i = 0; i < 3 * n; i++)
-        snprintf(add(f, at[i])->name, NAME, "the %s of %s %" PRIu64 " of subarea %zu", columns[i % 3], of, i / 3 + 1, subarea);
+    snprintf(add(f, value)->name, NAME, "the %s of %s %" PRIu64 " of subarea %zu", column, of, i + 1, subarea);
 }
 
+static void patch(struct file *f, const u64 *own, u64 i, size_t subarea)
+{
+    static const char *const columns[BT_PATCH_WIDTH] = { "cover", "soil group", "area" };
+    for (size_t j = 0; j < BT_PATCH_WIDTH; j++)
+        part(f, own[j], columns[j], "patch", i, subarea);
+}
+
+/* A kind that nobody knows has as many numbers as the oldest. */
+size_t segment_numbers(u64 kind)
+{
+    return kind == BT_SEGMENT_SHEET || kind == BT_SEGMENT_CHANNEL ? BT_SEGMENT_WIDTH : BT_SHALLOW_SLOPE_AT + 1;
+}
+
+static void segment(struct file *f, const u64 *own, u64 i, size_t subarea)
+{
+    static const char *const columns[BT_SEGMENT_WIDTH] = { "kind", "length", "slope, velocity or n",
+                                                           "2-year rain or radius", "slope" };
+    for (size_t j = 0; j < segment_numbers(own[BT_KIND_AT]); j++)
+        part(f, own[j], columns[j], "segment", i, subarea);
+}
+
+/* Past the limit of a count nothing is read. */
 static void record(struct file *f, const u64 *own, size_t subarea)
 {
-    static const char *const patch[] = { "cover", "soil group", "area" }, *const segment[] = { "kind", "length", "rate" };
     char name[NAME];
     snprintf(name, sizeof name, "the number of patches of subarea %zu", subarea);
     count(f, own[BT_PATCH_COUNT], name, BT_MOST_PATCHES, ", at most 8");
-    triples(f, own + BT_PATCHES, least_of(own[BT_PATCH_COUNT], BT_MOST_PATCHES), patch, "patch", subarea);
+    for (u64 i = 0; i < least_of(own[BT_PATCH_COUNT], BT_MOST_PATCHES); i++)
+        patch(f, own + BT_PATCHES + BT_PATCH_WIDTH * i, i, subarea);
     snprintf(name, sizeof name, "the number of segments of subarea %zu", subarea);
     count(f, own[BT_SEGMENT_COUNT], name, BT_MOST_SEGMENTS, ", at most 6");
-    triples(f, own + BT_SEGMENTS, least_of(own[BT_SEGMENT_COUNT], BT_MOST_SEGMENTS), segment, "segment", subarea);
+    for (u64 i = 0; i < least_of(own[BT_SEGMENT_COUNT], BT_MOST_SEGMENTS); i++)
+        segment(f, own + BT_SEGMENTS + BT_SEGMENT_WIDTH * i, i, subarea);
 }
 
 static void pond(struct file *f, const struct site *s)
 {
-    static const char *const columns[] = { "stage", "storage", "discharge" };
+    static const char *const columns[BT_POND_WIDTH] = { "stage", "storage", "discharge" };
     count(f, pond_rows(s), "the number of pond rows", BT_MOST_POND_ROWS + 1, ", at most 64");
     for (size_t i = 0; i < s->pond.len; i++)
-        snprintf(add(f, s->pond.at[i])->name, NAME, "the %s of pond row %zu", columns[i % 3], i / 3 + 1);
+        snprintf(add(f, s->pond.at[i])->name, NAME, "the %s of pond row %zu", columns[i % BT_POND_WIDTH],
+                 i / BT_POND_WIDTH + 1);
 }
 
 /* One more than the limit of rows, rain entries, subareas and pond rows can be read, and is the engine's to refuse. */
@@ -111,7 +134,8 @@ static bool append(struct file *f, const char *text)
 
 static const char *gap(struct prng *r)
 {
-    static const char *const seldom[] = { "\n", "\t", "\r\n", "   ", "\n\n", " # a comment, 12 3\n", "#\n", "# # 7\n\t" };
+    static const char *const seldom[] = { "\n",   "\t",                "\r\n", "   ",
+                                          "\n\n", " # a comment, 12 3\n", "#\n",  "# # 7\n\t" };
     return chance(r, 80) ? " " : seldom[below(r, sizeof seldom / sizeof *seldom)];
 }
 

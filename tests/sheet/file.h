@@ -22,6 +22,9 @@ struct file {
 /* Makes of a site what a file can say: row lists of one length, whole records, whole pond rows. */
 void sayable(struct site *s);
 
+/* How many numbers of a segment stand in a file: all of kinds 4 and 5, kind, length and rate of every other. */
+size_t segment_numbers(u64 kind);
+
 /* The words of a site that is sayable. Numbers within the counts only, and no more than a record has. */
 void words_of(const struct site *s, struct file *f);
 

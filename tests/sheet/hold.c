@@ -104,8 +104,8 @@ static void hold(const char *kind, const struct file *f, const char *due, bool s
     if (strcmp(sheet ? out : err, due) == 0 && *(sheet ? err : out) == '\0')
         return;
     save("due", due, strlen(due));
-    fprintf(stderr, "sheet: case %" PRIu64 " (%s) differs: in %s, case.txt gives out and err, and due is what it must give\n",
-            cases, kind, folder);
+    fprintf(stderr, "sheet: case %" PRIu64 " (%s) differs: in %s, case.txt gives out and err, and due is what it must "
+            "give\n", cases, kind, folder);
     exit(1);
 }
 
@@ -114,7 +114,8 @@ static void hold(const char *kind, const struct file *f, const char *due, bool s
 static const char *fault_line(size_t line, const char *fault, const struct word *w, const char *limit)
 {
     static char due[TEXT];
-    snprintf(due, sizeof due, "%s: line %zu: %s%s%s\n", case_path, line, fault, w ? w->name : "the end of the file", limit);
+    const char *name = w ? w->name : "the end of the file";
+    snprintf(due, sizeof due, "%s: line %zu: %s%s%s\n", case_path, line, fault, name, limit);
     return due;
 }
 
@@ -157,7 +158,7 @@ bool report(void)
         if (refused[n] == 0)
             fprintf(stderr, "sheet: refusal %d is in no case\n", n);
     }
-    printf("sheet: %" PRIu64 " files print what the reference has for them: %" PRIu64 " sheets, %" PRIu64 " refusals, %" PRIu64
-           " faults\n", cases, sheets, refusals, faults);
+    printf("sheet: %" PRIu64 " files print what the reference has for them: %" PRIu64 " sheets, %" PRIu64 " refusals, %"
+           PRIu64 " faults\n", cases, sheets, refusals, faults);
     return all;
 }

@@ -53,7 +53,8 @@ static void column(struct sink *to, int width, u64 n, int places)
 static void clock_time(struct sink *to, int width, u64 seconds)
 {
     char piece[PIECE];
-    snprintf(piece, sizeof piece, "%" PRIu64 ":%02d:%02d", seconds / 3600, (int)(seconds / 60 % 60), (int)(seconds % 60));
+    snprintf(piece, sizeof piece, "%" PRIu64 ":%02d:%02d", seconds / 3600, (int)(seconds / 60 % 60),
+             (int)(seconds % 60));
     put(to, "%*s", width, piece);
 }
 
@@ -113,19 +114,37 @@ static void patches(struct sink *to, const struct site *s)
     }
 }
 
+enum { KINDS = BT_SEGMENT_CHANNEL + 1 };
+
+/* A column of the segments, and by the kind the place of its number; 0 where a kind has none. */
+static const struct {
+    int width, places;
+    size_t at[KINDS];
+} COLUMNS[] = {
+    { 7, 3, { [BT_SEGMENT_SHEET] = BT_SHEET_N_AT, [BT_SEGMENT_CHANNEL] = BT_CHANNEL_N_AT } },
+    { 8, 3, { [BT_SEGMENT_SHEET] = BT_SHEET_RAIN_AT } },
+    { 7, 2, { [BT_SEGMENT_CHANNEL] = BT_CHANNEL_RADIUS_AT } },
+    { 14, 4, { [BT_SEGMENT_UNPAVED] = BT_SHALLOW_SLOPE_AT, [BT_SEGMENT_PAVED] = BT_SHALLOW_SLOPE_AT,
+               [BT_SEGMENT_SHEET] = BT_SHEET_SLOPE_AT, [BT_SEGMENT_CHANNEL] = BT_CHANNEL_SLOPE_AT } },
+    { 16, 2, { [BT_SEGMENT_GIVEN] = BT_GIVEN_VELOCITY_AT } },
+};
+
 static void segment(struct sink *to, size_t number, const u64 *own)
 {
-    static const char *const kinds[] = { "unpaved", "paved", "given" };
-    char rate[PIECE];
-    bool given = own[0] == 3;
-    decimal(rate, own[2], given ? 2 : 4);
-    put(to, "%7zu %9s %11" PRIu64 " %13s %15s %8" PRIu64 "\n", number, kinds[own[0] - 1], own[1], given ? "" : rate,
-        given ? rate : "", reference_segment(own[0], own[1], own[2]));
+    static const char *const words[KINDS] = { NULL, "unpaved", "paved", "given", "sheet", "channel" };
+    u64 kind = own[BT_KIND_AT];
+    put(to, "%7zu %9s %11" PRIu64, number, words[kind], own[BT_LENGTH_AT]);
+    for (size_t i = 0; i < sizeof COLUMNS / sizeof *COLUMNS; i++)
+        if (COLUMNS[i].at[kind] != 0)
+            column(to, COLUMNS[i].width, own[COLUMNS[i].at[kind]], COLUMNS[i].places);
+        else
+            put(to, "%*s", COLUMNS[i].width, "");
+    put(to, " %8" PRIu64 "\n", reference_segment(own));
 }
 
 static void segments(struct sink *to, const struct site *s)
 {
-    put(to, "\nSubarea      Kind  Length, ft  Slope, ft/ft  Velocity, ft/s  Time, s\n");
+    put(to, "\nSubarea      Kind  Length, ft      n  P2, in  r, ft  Slope, ft/ft  Velocity, ft/s  Time, s\n");
     for (size_t i = 0; i < subarea_count(s); i++) {
         const u64 *record = s->subareas.at + BT_WIDTH * i;
         for (u64 j = 0; j < record[BT_SEGMENT_COUNT]; j++)
@@ -198,18 +217,20 @@ static const char *const RULES[] = {
     NULL,
     ": the number of rows must be from 1 to 2,000",
     ": the step must be an even number of seconds from 60 to 3,600",
-    " (rain entry; 0 also for their count): there must be 2 entries to one more than the rows, starting at 0, never falling, "
-    "none above 30 inches",
+    " (rain entry; 0 also for their count): there must be 2 entries to one more than the rows, starting at 0, never "
+    "falling, none above 30 inches",
     ": the last row number must be at most 9,007,199,254,740,991",
     ": the number of subareas must be from 1 to 16",
     " (subarea): it must have 1 to 8 patches, each of cover 1 to 22, soil group 1 to 4 and 0.01 to 2,000 acres",
-    " (subarea): it must have 1 to 6 segments, each of kind 1 to 3, length 1 to 4,000 ft and slope or velocity 1 to 10,000",
+    " (subarea): it must have 1 to 6 segments, each of kind 1 to 5, length 1 to 4,000 ft, slope, velocity and radius 1 "
+    "to 10,000, n 1 to 999 and 2-year rain 1 to 30,000; only the first may be a sheet segment (kind 4), of at most 300 "
+    "ft",
     ": all subareas together must have at most 2,000 acres",
     " (subarea): its time of concentration must be at most 36,000 seconds",
     " (subarea): the step must not be longer than its time to peak",
     " (subarea): five times its time to peak must not be longer than 512 steps",
-    " (pond row; 0 for their count): there must be 2 to 64 rows within their limits, stage and storage rising, discharge "
-    "never falling, the first storage and discharge 0",
+    " (pond row; 0 for their count): there must be 2 to 64 rows within their limits, stage and storage rising, "
+    "discharge never falling, the first storage and discharge 0",
     " (pond row): it must store at least half a step of its discharge",
     " (row): its water must not be more than the last pond row can hold and release",
     [BT_REFUSED_RISE] = " (rain entry): it must be at most 4 inches above the one before",
@@ -220,8 +241,8 @@ u64 paper(const struct site *s, char *text, size_t room)
     static struct columns c;
     u64 answer[BT_ANSWER_LENGTH];
     struct sink to = { text, room };
-    reference_study(s->step, s->first, s->rain.at, s->rain.len, s->subareas.at, s->subareas.len, s->pond.at, s->pond.len,
-                    c.inflow, s->inflow, c.outflow, s->outflow, c.storage, s->storage, answer);
+    reference_study(s->step, s->first, s->rain.at, s->rain.len, s->subareas.at, s->subareas.len, s->pond.at,
+                    s->pond.len, c.inflow, s->inflow, c.outflow, s->outflow, c.storage, s->storage, answer);
     u64 number = answer[BT_REFUSAL];
     if (number != 0) {
         put(&to, "Refused: number %" PRIu64 ", place %" PRIu64 "%s\n", number, answer[BT_PLACE], RULES[number]);

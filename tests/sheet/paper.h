@@ -1,4 +1,4 @@
-/* What the sheet program must print: written here from the reference's answer and rows and from the site's own numbers. */
+/* What the sheet program must print, written from the reference's answer and rows and from the site's own numbers. */
 #ifndef PAPER_H
 #define PAPER_H
 

@@ -1,7 +1,8 @@
 /*
- * sheets FOLDER SEED CASES: holds the sheet program to the reference of tests/host, file by file: each limit on it and one
- * past it, each refusal, each fault of a file at each of its words, CASES random studies, half of them hostile, and two
- * of the largest. Standard input has the words that run the program, one to a line. Stops at the first difference.
+ * sheets FOLDER SEED CASES: holds the sheet program to the reference of tests/host, file by file: each limit on it and
+ * one past it, sheet flow in each place, each refusal, each fault of a file at each of its words, CASES random studies,
+ * half of them hostile, and two of the largest. Standard input has the words that run the program, one to a line. Stops
+ * at the first difference.
  */
 #include <stdio.h>
 #include <stdlib.h>
@@ -30,7 +31,22 @@ static struct prng fresh_plain(struct site *s, size_t count, size_t rows)
 
 /* ---- Limits */
 
-enum field { STEP, FIRST, ENTRY, PATCHES, COVER, SOIL, AREA, SEGMENTS, KIND, LENGTH, RATE, STAGE, STORAGE, DISCHARGE };
+enum { PAVED_AT = 3, CHANNEL_AT = 4 };
+
+static const u64 SHEET[] = { BT_SEGMENT_SHEET, 100, 240, 3600, 100 }, PAVED[] = { BT_SEGMENT_PAVED, 800, 200, 0, 0 },
+                 CHANNEL[] = { BT_SEGMENT_CHANNEL, 2800, 50, 2000, 50 };
+
+/* A path of each form that a segment can have. */
+static void set_path(u64 *record)
+{
+    set_segment(segment_at(record, 0), SHEET);
+    set_segment(segment_at(record, PAVED_AT), PAVED);
+    set_segment(segment_at(record, CHANNEL_AT), CHANNEL);
+}
+
+enum field { STEP, FIRST, ENTRY, PATCHES, COVER, SOIL, AREA, SEGMENTS, FIRST_KIND, SHEET_LENGTH, SHEET_N, SHEET_RAIN,
+             SHEET_SLOPE, LENGTH, RATE, KIND, CHANNEL_LENGTH, CHANNEL_N, CHANNEL_RADIUS, CHANNEL_SLOPE, STAGE, STORAGE,
+             DISCHARGE };
 
 static u64 *field_of(struct site *s, enum field field)
 {
@@ -44,9 +60,18 @@ static u64 *field_of(struct site *s, enum field field)
     case SOIL: return patch_at(record, 2) + 1;
     case AREA: return patch_at(record, 2) + 2;
     case SEGMENTS: return record + BT_SEGMENT_COUNT;
-    case KIND: return segment_at(record, 3);
-    case LENGTH: return segment_at(record, 3) + 1;
-    case RATE: return segment_at(record, 3) + 2;
+    case FIRST_KIND: return segment_at(record, 0);
+    case SHEET_LENGTH: return segment_at(record, 0) + BT_LENGTH_AT;
+    case SHEET_N: return segment_at(record, 0) + BT_SHEET_N_AT;
+    case SHEET_RAIN: return segment_at(record, 0) + BT_SHEET_RAIN_AT;
+    case SHEET_SLOPE: return segment_at(record, 0) + BT_SHEET_SLOPE_AT;
+    case LENGTH: return segment_at(record, PAVED_AT) + BT_LENGTH_AT;
+    case RATE: return segment_at(record, PAVED_AT) + BT_SHALLOW_SLOPE_AT;
+    case KIND: return segment_at(record, CHANNEL_AT);
+    case CHANNEL_LENGTH: return segment_at(record, CHANNEL_AT) + BT_LENGTH_AT;
+    case CHANNEL_N: return segment_at(record, CHANNEL_AT) + BT_CHANNEL_N_AT;
+    case CHANNEL_RADIUS: return segment_at(record, CHANNEL_AT) + BT_CHANNEL_RADIUS_AT;
+    case CHANNEL_SLOPE: return segment_at(record, CHANNEL_AT) + BT_CHANNEL_SLOPE_AT;
     case STAGE: return row;
     case STORAGE: return row + 1;
     default: return row + 2;
@@ -62,8 +87,13 @@ static const struct {
     { ENTRY, { 0, 5000, 30000, 30001 } },       { PATCHES, { 0, 1, 8, 9 } },
     { COVER, { 0, 1, 22, 23 } },                { SOIL, { 0, 1, 4, 5 } },
     { AREA, { 0, 1, 100000, 200001 } },         { SEGMENTS, { 0, 1, 6, 7 } },
-    { KIND, { 0, 1, 3, 4 } },                   { LENGTH, { 0, 1, 4000, 4001 } },
-    { RATE, { 0, 1, 10000, 10001 } },           { STAGE, { 0, 1501, 1000000, 1000001 } },
+    { FIRST_KIND, { 3, 4, 5, 6 } },             { SHEET_LENGTH, { 0, 1, 300, 301 } },
+    { SHEET_N, { 0, 1, 999, 1000 } },           { SHEET_RAIN, { 0, 1, 30000, 30001 } },
+    { SHEET_SLOPE, { 0, 1, 10000, 10001 } },    { LENGTH, { 0, 1, 4000, 4001 } },
+    { RATE, { 0, 1, 10000, 10001 } },           { KIND, { 0, 1, 5, 6 } },
+    { KIND, { 2, 3, 4, UINT64_MAX } },          { CHANNEL_LENGTH, { 0, 1, 4000, 4001 } },
+    { CHANNEL_N, { 0, 1, 999, 1000 } },         { CHANNEL_RADIUS, { 0, 1, 10000, 10001 } },
+    { CHANNEL_SLOPE, { 0, 1, 10000, 10001 } },  { STAGE, { 0, 1501, 1000000, 1000001 } },
     { STORAGE, { 0, 1000000000000 - 1, 1000000000000, 1000000000001 } },
     { DISCHARGE, { 0, 9999999, 10000000, 10000001 } },
     { FIRST, { UINT64_MAX, 0, 9000000000000000, UINT64_MAX - 11 } },
@@ -72,6 +102,7 @@ static const struct {
 static void at_limit(struct site *s, enum field field, u64 value)
 {
     struct prng r = fresh_plain(s, 3, 7);
+    set_path(record_at(s, 1));
     *field_of(s, field) = value;
     hold_site("a limit", s, &r);
 }
@@ -197,6 +228,14 @@ static void together(struct site *s)
     }
 }
 
+/* Sheet flow in one place of a path, the first or a later one. */
+static void sheet_flow(struct site *s, size_t at)
+{
+    struct prng r = fresh_plain(s, 3, 7);
+    set_segment(segment_at(record_at(s, 1), at), SHEET);
+    hold_site("sheet flow", s, &r);
+}
+
 static void refusals(struct site *s)
 {
     for (size_t n = 0; n < STUDY_FAULTS; n++)
@@ -216,7 +255,8 @@ static void spell(struct word *w, const char *text)
 
 static void no_number(struct file *f, struct prng *r, size_t i)
 {
-    static const char *const texts[] = { "x", "-1", "1.5", "12a", "0x10", "1e3", "+4", "1,000", "\x80", "99999999999999999999x" };
+    static const char *const texts[] = { "x",   "-1", "1.5",   "12a",  "0x10",
+                                         "1e3", "+4", "1,000", "\x80", "99999999999999999999x" };
     spell(&f->words[i], texts[below(r, COUNT(texts))]);
     write_words(f, r);
     hold_fault("no number", f, i, f->words[i].line, "this is no whole number; expected: ");
@@ -251,6 +291,7 @@ static void file_faults(struct site *s)
     static void (*const kinds[])(struct file *, struct prng *, size_t) = { no_number, above, ended };
     static struct file whole, f;
     struct prng r = fresh_plain(s, 2, 2);
+    set_path(record_at(s, 1));
     words_of(s, &whole);
     for (size_t i = 0; i < whole.count; i++)
         for (size_t k = 0; k < COUNT(kinds); k++) {
@@ -283,6 +324,8 @@ int main(int argc, char **argv)
     limits(&s);
     lengths(&s);
     together(&s);
+    for (size_t i = 0; i < BT_MOST_SEGMENTS; i++)
+        sheet_flow(&s, i);
     refusals(&s);
     file_faults(&s);
     for (u64 i = 0; i < 2; i++)

@@ -1,6 +1,8 @@
 /*
  * Prints calls to be made of the engine in WebAssembly, and what the native engine makes of them. A line is one of
  *
+ *   interface N            what bt_interface gives
+ *   record WIDTH           the numbers of a record
  *   case TEXT              what follows, in words
  *   setup STEP FIRST
  *   lend LIST NUMBERS..    the list now holds these numbers, and is as long
@@ -305,6 +307,52 @@ static void other_faults(struct edit *e, struct prng *r)
     }
 }
 
+/* ---- Segments of sheet and channel flow: on their limits and past them, where the root is whole and beside that */
+
+static const u64 SEGMENTS[][BT_SEGMENT_WIDTH] = {
+    { BT_SEGMENT_SHEET, 100, 240, 3600, 100 },
+    { BT_SEGMENT_SHEET, 1, 1, 30000, 10000 },
+    { BT_SEGMENT_SHEET, 300, 999, 30000, 10000 },
+    { BT_SEGMENT_SHEET, 300, 999, 1, 1 },
+    { BT_SEGMENT_SHEET, 100, 10, 10, 10000 }, /* whole: 252 s */
+    { BT_SEGMENT_SHEET, 100, 10, 11, 10000 },
+    { BT_SEGMENT_SHEET, 100, 10, 9, 10000 },
+    { BT_SEGMENT_SHEET, 301, 999, 30000, 10000 },
+    { BT_SEGMENT_SHEET, 300, 1000, 30000, 10000 },
+    { BT_SEGMENT_SHEET, 300, 999, 30001, 10000 },
+    { BT_SEGMENT_SHEET, 300, 999, 30000, 10001 },
+    { BT_SEGMENT_CHANNEL, 2800, 50, 2000, 50 },
+    { BT_SEGMENT_CHANNEL, 1, 1, 10000, 10000 },
+    { BT_SEGMENT_CHANNEL, 4000, 999, 10000, 10000 },
+    { BT_SEGMENT_CHANNEL, 4000, 999, 1, 1 },
+    { BT_SEGMENT_CHANNEL, 100, 149, 100, 100 }, /* whole: 100 s */
+    { BT_SEGMENT_CHANNEL, 100, 149, 101, 100 },
+    { BT_SEGMENT_CHANNEL, 100, 149, 99, 100 },
+    { BT_SEGMENT_CHANNEL, 4001, 999, 10000, 10000 },
+    { BT_SEGMENT_CHANNEL, 4000, 1000, 10000, 10000 },
+    { BT_SEGMENT_CHANNEL, 4000, 999, 10001, 10000 },
+    { BT_SEGMENT_CHANNEL, 4000, 999, 10000, 10001 },
+};
+
+/* As segment 'at' of the second subarea, from 0: in a study, and as it is put there by an edit. */
+static void take_segment(struct edit *e, struct prng *r, const u64 *segment, size_t at)
+{
+    printf("case kind %" PRIu64 " as segment %zu\n", segment[BT_KIND_AT], at + 1);
+    start(e, r);
+    keep_record(e);
+    memcpy(segment_at(e->fresh, at), segment, BT_SEGMENT_WIDTH * sizeof *segment);
+    take_edit(e);
+    altered_site(&e->site, e);
+    take_study(&e->site);
+}
+
+static void segments(struct edit *e, struct prng *r)
+{
+    for (size_t i = 0; i < COUNT(SEGMENTS); i++)
+        for (size_t at = 0; at < 2; at++)
+            take_segment(e, r, SEGMENTS[i], at);
+}
+
 /* ---- Random inputs, good and bad */
 
 static void random_sites(struct edit *e)
@@ -328,9 +376,12 @@ int main(void)
 {
     static struct edit e;
     struct prng r = prng_of(SEED, 2);
+    printf("interface %" PRIu64 "\n", bt_interface());
+    printf("record %d\n", BT_WIDTH);
     chains();
     study_faults(&e, &r);
     other_faults(&e, &r);
+    segments(&e, &r);
     random_sites(&e);
     return 0;
 }

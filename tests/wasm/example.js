@@ -1,5 +1,5 @@
-// Two studies from JavaScript, one refused: those of tests/host/example, with the same numbers. tests/wasm/run runs
-// this and compares what it prints.
+// Three studies from JavaScript, one refused: those of tests/host/example, with the same numbers; what is altered there
+// by an edit is here a new study. tests/wasm/run runs this and compares what it prints.
 //
 //     node tests/wasm/example.js ENGINE.wasm
 //
@@ -8,6 +8,11 @@
 const fs = require("fs");
 
 const engine = new WebAssembly.Instance(new WebAssembly.Module(fs.readFileSync(process.argv[2])), {}).exports;
+
+const INTERFACE = 2n; // what this was written for
+if (engine.bt_interface() !== INTERFACE) {
+    throw new Error(`the engine has interface ${engine.bt_interface()}, not ${INTERFACE}`);
+}
 
 // Lists stand in a page that is added to the engine's memory: all the rest of it is the engine's own.
 let free = 65536 * engine.memory.grow(1);
@@ -23,19 +28,38 @@ function lend(numbers) {
 const slice = (list) => [list.byteOffset, BigInt(list.length)]; // as the engine takes a list: pointer, length
 const padded = (numbers, length) => [...numbers, ...Array(length - numbers.length).fill(0)];
 
-// A record: patch count, 8 patches, segment count, 6 segments, three numbers each.
+const MOST_PATCHES = 8;
+const PATCH_WIDTH = 3;
+const MOST_SEGMENTS = 6;
+const SEGMENT_WIDTH = 5;
+
+// A record: patch count, room for all patches, segment count, room for all segments.
 function record(patches, segments) {
-    return [patches.length, ...padded(patches.flat(), 24), segments.length, ...padded(segments.flat(), 18)];
+    return [
+        patches.length, ...padded(patches.flat(), MOST_PATCHES * PATCH_WIDTH),
+        segments.length, ...padded(segments.flat(), MOST_SEGMENTS * SEGMENT_WIDTH),
+    ];
 }
+
+// Segments by their kind: its number, the length, then what the kind needs. What is left of a segment's room is spare.
+const unpaved = (length, slope) => padded([1, length, slope], SEGMENT_WIDTH);
+const paved = (length, slope) => padded([2, length, slope], SEGMENT_WIDTH);
+const given = (length, velocity) => padded([3, length, velocity], SEGMENT_WIDTH);
+const sheet = (length, n, rain, slope) => [4, length, n, rain, slope];
+const channel = (length, n, radius, slope) => [5, length, n, radius, slope];
 
 const ROWS = 24;
 const entries = [0, 60, 150, 300, 600, 1400, 2200, 2500, 2700, 2830, 2920, 2970, 3000];
 const rain = lend(entries);
 const slipped = lend([...entries.slice(0, -1), 30000]); // a slipped decimal
-const subareas = lend([
-    ...record([[14, 2, 800], [4, 2, 200]], [[1, 300, 200], [3, 1200, 250]]),
-    ...record([[20, 3, 600]], [[1, 1500, 300]]),
-]);
+const lots = record([[14, 2, 800], [4, 2, 200]], [unpaved(300, 200), given(1200, 250)]);
+const woods = record([[20, 3, 600]], [unpaved(1500, 300)]);
+const built = record(
+    [[12, 3, 500], [20, 3, 100]],
+    [sheet(100, 150, 3600, 200), paved(1400, 300), channel(400, 30, 80, 100)],
+);
+const subareas = lend([...lots, ...woods]);
+const altered = lend([...lots, ...built]);
 const pond = lend([0, 0, 0, 1000, 12000000, 2000, 2000, 30000000, 9000, 4000, 90000000, 20000]);
 const [inflow, outflow, storage] = [1, 2, 3].map(() => lend(Array(ROWS).fill(0)));
 const answer = lend(Array(12).fill(0));
@@ -43,7 +67,7 @@ const answer = lend(Array(12).fill(0));
 const step = 300n; // seconds
 const first = 1n; // the first row's number
 const REFUSED_RISE = 19n;
-const study = (rain) => engine.bt_study(
+const study = (rain, subareas) => engine.bt_study(
     step, first, ...slice(rain), ...slice(subareas), ...slice(pond),
     ...slice(inflow), ...slice(outflow), ...slice(storage), answer.byteOffset,
 );
@@ -57,13 +81,12 @@ function refused(what) {
     console.log(`${what} is refused: ${answer[0]} at ${answer[1]}`);
 }
 
-if (study(slipped) === REFUSED_RISE) {
-    refused("the study with a slipped decimal");
-}
-if (study(rain) !== 0n) {
-    refused("the study");
-} else {
-    console.log("the study");
+function print(what, refusal) {
+    if (refusal !== 0n) {
+        refused(what);
+        return;
+    }
+    console.log(what);
     thousandths("inflow", answer[2], "cubic feet");
     thousandths("released", answer[3], "cubic feet");
     thousandths("stored", answer[4], "cubic feet");
@@ -71,3 +94,9 @@ if (study(rain) !== 0n) {
     console.log(`  ${"in row".padEnd(16)} ${String(answer[6]).padStart(6)}`);
     thousandths("greatest stage", answer[7], "ft");
 }
+
+if (study(slipped, subareas) === REFUSED_RISE) {
+    refused("the study with a slipped decimal");
+}
+print("the study", study(rain, subareas));
+print("with the second subarea built over", study(rain, altered));

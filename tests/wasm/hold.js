@@ -47,9 +47,10 @@ function write(words, name, numbers) {
 // ---- Calls
 
 const setup = { step: 0n, first: 0n };
+let width = 0; // the numbers of a record
 const at = (name) => lists.get(name).at;
 const lend = (name) => [at(name), BigInt(lists.get(name).length)];
-const records = () => [at("subareas"), BigInt(lists.get("subareas").length / 44)];
+const records = () => [at("subareas"), BigInt(lists.get("subareas").length / width)];
 const rows = () => [...lend("inflow"), ...lend("outflow"), ...lend("storage")];
 const run = (subareas) => [setup.step, setup.first, ...lend("rain"), ...subareas, ...lend("pond"), ...rows()];
 const change = (place) => [place, at("fresh"), at("answer"), at("changes")];
@@ -124,6 +125,13 @@ function lookAtCall() {
 // ---- Lines
 
 const words = {
+    interface: (number) => {
+        const own = BigInt.asUintN(64, engine.bt_interface());
+        if (own !== BigInt(number)) stop(`the interface is ${own}, natively ${number}`);
+    },
+    record: (numbers) => {
+        width = Number(numbers);
+    },
     case: (...text) => {
         about = text.join(" ");
     },
@@ -163,10 +171,10 @@ function deepest() {
 
 const upTo = (n) => Array.from({ length: n }, (_, i) => i + 1);
 const REFUSALS = {
-    bt_study: upTo(14),
-    bt_study_records: upTo(14),
-    bt_edit: upTo(17),
-    bt_edit_records: upTo(17),
+    bt_study: [...upTo(14), 19],
+    bt_study_records: [...upTo(14), 19],
+    bt_edit: [...upTo(17), 19],
+    bt_edit_records: [...upTo(17), 19],
     bt_mark: [1, 2, 4, 12, 13, 17, 18],
 };
 

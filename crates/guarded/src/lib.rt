@@ -9,6 +9,12 @@ pub const NONE: u64 = 1000000000000000;
 // Document 01's least step; the base rule's time to peak is the same at every step.
 const STEP: u64 = 60;
 
+// No segment takes longer: a channel as rough and as long as may be, at the least radius and slope.
+const MOST_SEGMENT_TIME: u64 = 5777933;
+
+// The greatest Tc that segments within their limits can have. Refusal 9 begins far below it.
+const GREATEST_TC: u64 = travel::MOST_SEGMENTS as u64 * MOST_SEGMENT_TIME;
+
 // What a function gives: up to four figures, NONE for each that it does not have.
 pub struct Four {
     pub a: u64,
@@ -106,15 +112,17 @@ fn depths(n: &[u64], curve: u64) -> Four {
     }
 }
 
-fn segment(kind: u64, length: u64, rate: u64) -> u64 {
-    let one = [kind, length, rate];
+// What stands third, fourth and fifth is by the kind.
+fn segment(kind: u64, length: u64, third: u64, fourth: u64, fifth: u64) -> u64 {
+    let one = [kind, length, third, fourth, fifth];
     if travel::segments_good(&one) {
-        travel::segment_time(kind, length, rate)
+        travel::segment_time(kind, length, third, fourth, fifth)
     } else {
         NONE
     }
 }
 
+// Tc and Tp of segments, five numbers each.
 fn path(segments: &[u64]) -> Four {
     if travel::segments_good(segments) {
         let tc = travel::concentration(segments);
@@ -133,7 +141,7 @@ fn timing(step: u64, tc: u64) -> Four {
     if tc < 360 {
         return one(NONE);
     }
-    if tc > 2400000 {
+    if tc > GREATEST_TC {
         return one(NONE);
     }
     let peak = travel::time_to_peak(step, tc);
@@ -210,7 +218,7 @@ pub fn given_by(function: u8, n: &[u64]) -> Four {
         b'm' => one(mean(at(n, 0), at(n, 1))),
         b'd' => one(depth(at(n, 0), at(n, 1))),
         b'a' => depths(n, at(n, 0)),
-        b's' => one(segment(at(n, 0), at(n, 1), at(n, 2))),
+        b's' => one(segment(at(n, 0), at(n, 1), at(n, 2), at(n, 3), at(n, 4))),
         b'f' => path(n),
         b't' => timing(at(n, 0), at(n, 1)),
         b'w' => one(weight(at(n, 0), at(n, 1), at(n, 2))),

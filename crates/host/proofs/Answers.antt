@@ -4,14 +4,19 @@ use Prim.Native.Nat.{ℕ}
 use denote.Ref.{now}
 use lib.IntN.{ℤ}
 use lib.Ieee.{Float}
-use Rattle.laws.proofs.OneAnswer.{OneAnswerAnd, same}
+use Rattle.laws.proofs.OneAnswer.{OneAnswer, OneAnswerAnd, same}
 use Rattle.checks.specs.Site.{Rows, rowsNow}
+use Rattle.host.proofs.bt_interface.Kinds as bt-interface-kinds
+use Rattle.host.proofs.bt_interface.Reads as bt-interface-reads
 use Rattle.host.proofs.bt_study.Kinds as bt-study-kinds
 use Rattle.host.proofs.bt_study.Reads as bt-study-reads
 use Rattle.host.proofs.bt_edit.Kinds as bt-edit-kinds
 use Rattle.host.proofs.bt_edit.Reads as bt-edit-reads
 use Rattle.host.proofs.bt_mark.Kinds as bt-mark-kinds
 use Rattle.host.proofs.bt_mark.Reads as bt-mark-reads
+
+pub bt-interface-one : OneAnswer bt-interface-kinds.ps bt-interface-kinds.r bt-interface-reads.Post
+bt-interface-one κs a x y s t p q = same p q
 
 pub bt-study-one : OneAnswerAnd bt-study-kinds.ps bt-study-kinds.r {L = List ℕ × Rows}
     (λ κs s. (now (s .1 .1 .1 .1 .1 .1 .1 .1 .0), rowsNow (s .1 .1 .1 .1 .1 .0) (s .1 .1 .1 .1 .1 .1 .0) (s .1 .1 .1 .1 .1 .1 .1 .0))) bt-study-reads.Post

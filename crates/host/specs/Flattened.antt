@@ -15,14 +15,14 @@ abbrev pub patchNumbers : Patch → List ℕ
 patchNumbers p = p .cover ∷ p .soil ∷ p .area ∷ []
 
 abbrev pub segmentNumbers : Segment → List ℕ
-segmentNumbers g = g .kind ∷ g .length ∷ g .rate ∷ []
+segmentNumbers g = g .kind ∷ g .length ∷ g .third ∷ g .fourth ∷ g .fifth ∷ []
 
 -- a record's arrays are full, so that neither of these is read
 abbrev pub noPatch : Patch
 noPatch = record { cover = 0; soil = 0; area = 0 }
 
 abbrev pub noSegment : Segment
-noSegment = record { kind = 0; length = 0; rate = 0 }
+noSegment = record { kind = 0; length = 0; third = 0; fourth = 0; fifth = 0 }
 
 -- the numbers of the first k patches, of the first k segments
 unfoldable pub patchesTo : ℕ → List Patch → List ℕ

@@ -1,3 +1,4 @@
+pub mod Interface
 pub mod Flattened
 pub mod Gathered
 pub mod HostEdits

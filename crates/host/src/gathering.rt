@@ -10,7 +10,7 @@ ghost use lib.Seq.{sets};
 ghost use Rattle.curve.specs.CurveNumbers.{mostPatches, patchWidth};
 ghost use Rattle.travel.specs.TravelTime.{mostSegments, segmentWidth};
 ghost use Rattle.laws.specs.Limits.{mostSubareas};
-ghost use Rattle.host.specs.Flattened.{patchesTo, segmentsTo};
+ghost use Rattle.host.specs.Flattened.{segmentNumbers, patchesTo, segmentsTo};
 ghost use Rattle.host.specs.Gathered.{mostNumbers, capped, blank, putAt, gathered};
 
 const MOST_NUMBERS: usize = limits::MOST_SUBAREAS * subarea::WIDTH;
@@ -50,6 +50,22 @@ fn put_three(to: &mut [u64; MOST_NUMBERS], at: usize, x: u64, y: u64, z: u64)
     to[c] = z;
 }
 
+// A segment's numbers, from a place on.
+fn put_segment(to: &mut [u64; MOST_NUMBERS], at: usize, own: Segment)
+    requires { ⌜ at + segmentWidth ≤ mostNumbers ⌝ }
+    ensures { λ _. ⌜ now (to .exit) ≡ sets (now (to .entry)) at (segmentNumbers own) ⌝ }
+{
+    let b = at + 1;
+    let c = b + 1;
+    let d = c + 1;
+    let e = d + 1;
+    to[at] = own.kind;
+    to[b] = own.length;
+    to[c] = own.third;
+    to[d] = own.fourth;
+    to[e] = own.fifth;
+}
+
 fn put_patches(to: &mut [u64; MOST_NUMBERS], at: usize, own: [Patch; curve::MOST_PATCHES])
     requires { ⌜ at + patchWidth * mostPatches ≤ mostNumbers ⌝ }
     ensures { λ _. ⌜ now (to .exit) ≡ sets (now (to .entry)) at (patchesTo mostPatches own) ⌝ }
@@ -69,7 +85,7 @@ fn put_segments(to: &mut [u64; MOST_NUMBERS], at: usize, own: [Segment; travel::
     let mut k: usize = 0;
     while k < travel::MOST_SEGMENTS {
         let g = own[k];
-        put_three(to, at + travel::SEGMENT_WIDTH * k, g.kind, g.length, g.rate);
+        put_segment(to, at + travel::SEGMENT_WIDTH * k, g);
         k += 1;
     }
 }

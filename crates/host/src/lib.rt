@@ -12,6 +12,18 @@ ghost use Rattle.answers.specs.Setups.{setupOf};
 ghost use Rattle.answers.specs.StudyNumbers.{studyNumbersOf};
 ghost use Rattle.answers.specs.EditNumbers.{editNumbersOf, changesOf};
 ghost use Rattle.answers.specs.MarkNumbers.{markNumbersOf};
+ghost use Rattle.host.specs.Interface.{interface};
+
+// Raised with each change of a layout or of a signature below; the header's BT_INTERFACE is the same.
+const INTERFACE: u64 = 2;
+
+// The number of the interface that this engine was built with.
+#[no_mangle]
+pub extern "C" fn bt_interface() -> u64
+    ensures { λ r. ⌜ r ≡ interface ⌝ }
+{
+    INTERFACE
+}
 
 // A study. The answer is written whole in either case; a refused study leaves the three row lists as they were.
 #[no_mangle]

@@ -22,12 +22,14 @@ pub struct Patch {
     pub area: u64,
 }
 
-// A segment: length in feet; rate is the slope in ten-thousandths, or the velocity in hundredths of a ft/s.
+// A segment: length in feet; what stands third, fourth and fifth is by its kind, as travel's definitions say.
 #[repr(C)]
 pub struct Segment {
     pub kind: u64,
     pub length: u64,
-    pub rate: u64,
+    pub third: u64,
+    pub fourth: u64,
+    pub fifth: u64,
 }
 
 // A subarea's record, laid out as its numbers are in a flat list.

@@ -4,10 +4,6 @@ use mathlib.Core.List.{List}
 use lib.ListN.{length}
 use Rattle.laws.specs.Limits.{mostRows}
 
--- a patch, a segment and a pond row are as many numbers each
-abbrev pub triple : ℕ
-triple = 3
-
 -- one row more than a study may have
 abbrev pub rowsRoom : ℕ
 rowsRoom = mostRows + 1

@@ -1,6 +1,7 @@
 // A study's file, read into the lists that the engine is lent. docs/SHEET.md has the format.
 pub mod faults;
 pub mod items;
+mod kinds;
 mod lists;
 mod numbers;
 pub mod room;
@@ -10,7 +11,8 @@ use subarea::Setup;
 ghost use Rattle.reading.specs.Bounds.{LaidOk};
 
 // What is wrong with a file, and in which line; 0 for nothing. Asked for there was item number k of its kind, in subarea
-// `of`; where there are too many, k is document 01's limit, or 0 where the limit is told by other numbers of the file.
+// `of`: of patches, segments and pond rows, the number at place k of their list. Where there are too many, k is document 01's
+// limit, or 0 where the limit is told by other numbers of the file.
 pub struct Fault {
     pub fault: u64,
     pub line: u64,

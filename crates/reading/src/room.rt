@@ -2,9 +2,6 @@
 // number.
 use laws::limits;
 
-// A patch, a segment and a pond row are as many numbers each.
-pub const TRIPLE: usize = curve::PATCH_WIDTH;
-
 pub const ROWS_ROOM: usize = limits::MOST_ROWS + 1;
 
 // Rain has an entry more than it has steps.
@@ -12,4 +9,4 @@ pub const RAIN_ROOM: usize = ROWS_ROOM + 1;
 
 pub const SUBAREAS_ROOM: usize = subarea::WIDTH * (limits::MOST_SUBAREAS + 1);
 
-pub const POND_ROOM: usize = TRIPLE * (pond::MOST_POND_ROWS + 1);
+pub const POND_ROOM: usize = pond::ROW_WIDTH * (pond::MOST_POND_ROWS + 1);

@@ -6,12 +6,13 @@ use reading::items::PATCH;
 use reading::items::POND_ROW;
 use reading::items::SEGMENT;
 use reading::items::SUBAREAS;
-use reading::room::TRIPLE;
 use study::Figures;
 use subarea::Setup;
 ghost use mathlib.Core.Path.{_≡_};
-ghost use Prim.Native.Nat.{_+_, _-_, _/_, _≤_, _<_};
+ghost use Prim.Native.Nat.{_+_, _-_, _*_, _/_, _≤_, _<_};
 ghost use lib.ListN.{length};
+ghost use Rattle.travel.specs.TravelTime.{mostSegments};
+ghost use Rattle.travel.specs.Needs.{mostSegmentTime};
 ghost use Rattle.pond.specs.Needs.{PondOk};
 ghost use Rattle.subarea.specs.Records.{width};
 ghost use Rattle.sheet.specs.Bounds.{AsMany, RowsNumbered};
@@ -45,7 +46,7 @@ fn heading(setup: Setup, rows: u64, rain: &[u64]) {
 
 // How many steps lie in five times the time to peak. No study has a step of 0.
 fn weights(peak: u64, step: u64) -> u64
-    requires { ⌜ peak ≤ 1440000 ⌝ }
+    requires { ⌜ peak ≤ mostSegments * mostSegmentTime ⌝ }
 {
     if step == 0 { 0 } else { 5 * peak / step }
 }
@@ -78,8 +79,8 @@ fn record_lines(item: u64, step: u64, number: u64, own: &[u64])
     let e = subarea::SEGMENT_COUNT;
     let b = subarea::SEGMENTS;
     match item {
-        PATCH => lists::lines(item, number, &own[a..e]),
-        SEGMENT => lists::lines(item, number, &own[b..]),
+        PATCH => lists::lines(item, curve::PATCH_WIDTH, number, &own[a..e]),
+        SEGMENT => lists::lines(item, travel::SEGMENT_WIDTH, number, &own[b..]),
         _ => subarea_line(step, number, own),
     }
 }
@@ -106,7 +107,7 @@ fn subarea_blocks(step: u64, list: &[u64]) {
 
 fn pond_table(pond: &[u64]) {
     texts::head(texts::POND);
-    lists::lines(POND_ROW, 0, pond);
+    lists::lines(POND_ROW, pond::ROW_WIDTH, 0, pond);
 }
 
 // What was asked: the site with its lists.
@@ -168,7 +169,7 @@ pub(crate) fn rows(setup: Setup, pond: &[u64], inflow: &[u64], outflow: &[u64], 
     requires { ⌜ RowsNumbered (setup .first) (length (now inflow)) ⌝ }
 {
     let half = setup.step / 2;
-    let n = pond.len() / TRIPLE;
+    let n = pond.len() / pond::ROW_WIDTH;
     if half < LEAST_HALF {
         return;
     }

@@ -5,10 +5,13 @@ use reading::faults::TOO_MANY;
 use reading::items::PATCH;
 use reading::items::POND_ROW;
 use reading::items::SEGMENT;
-use reading::room::TRIPLE;
 use refusals::Refusal;
 
-const COLUMNS: u64 = TRIPLE as u64;
+const PATCH_WIDTH: u64 = curve::PATCH_WIDTH as u64;
+
+const SEGMENT_WIDTH: u64 = travel::SEGMENT_WIDTH as u64;
+
+const POND_WIDTH: u64 = pond::ROW_WIDTH as u64;
 
 pub(crate) fn refused(r: Refusal) {
     texts::fault(texts::REFUSED, r.number);
@@ -18,11 +21,14 @@ pub(crate) fn refused(r: Refusal) {
 
 // Item k of its kind. Rain entries count from 0, the others from 1, by columns.
 fn item(item: u64, k: u64) {
-    let place = k / COLUMNS + 1;
     match item {
-        PATCH => texts::fault_of(texts::PATCH_COLUMNS, k % COLUMNS, place),
-        SEGMENT => texts::fault_of(texts::SEGMENT_COLUMNS, k % COLUMNS, place),
-        POND_ROW => texts::fault_of(texts::POND_COLUMNS, k % COLUMNS, place),
+        PATCH => texts::fault_of(texts::PATCH_COLUMNS, k % PATCH_WIDTH, k / PATCH_WIDTH + 1),
+        SEGMENT => texts::fault_of(
+            texts::SEGMENT_COLUMNS,
+            k % SEGMENT_WIDTH,
+            k / SEGMENT_WIDTH + 1,
+        ),
+        POND_ROW => texts::fault_of(texts::POND_COLUMNS, k % POND_WIDTH, k / POND_WIDTH + 1),
         _ => texts::fault_of(texts::ITEMS, item, k),
     }
 }

@@ -1,44 +1,44 @@
-// The lists of a site in engineers' units: patches, segments and pond rows are three numbers each.
+// The lists of a site in engineers' units: patches, segments and pond rows.
 use crate::texts;
 use reading::items::PATCH;
 use reading::items::POND_ROW;
 use reading::items::SEGMENT;
-use reading::room::TRIPLE;
-ghost use mathlib.Core.Path.{_≡_};
-ghost use lib.ListN.{length};
-ghost use Rattle.reading.specs.Bounds.{triple};
+use travel::CHANNEL;
+use travel::SHEET;
+ghost use Prim.Native.Nat.{_≤_};
 
 // A place that no patch was laid in does not pass. All others of a study that was not refused do.
-fn patch_line(of: u64, own: &[u64])
-    requires { ⌜ length (now own) ≡ triple ⌝ }
-{
+fn patch_line(of: u64, own: &[u64]) {
     if !curve::patches_good(own) {
         return;
     }
     let cover = own[0];
     let soil = own[1];
+    let area = own[2];
     let curve = curve::cover_number(cover, soil);
-    texts::sheet(texts::PATCHES + soil, &[of, cover, own[2], curve]);
+    texts::sheet(texts::PATCHES + soil, &[of, cover, area, curve]);
 }
 
-// A slope is in ten-thousandths, a velocity in hundredths; each has a column of its own. A place that no segment was laid in
-// does not pass.
-fn segment_line(of: u64, own: &[u64])
-    requires { ⌜ length (now own) ≡ triple ⌝ }
-{
+// Each number has a column of its own, which its kind's text knows. A place that no segment was laid in does not pass; a sheet
+// segment does, since alone it stands first.
+fn segment_line(of: u64, own: &[u64]) {
     if !travel::segments_good(own) {
         return;
     }
     let kind = own[0];
     let length = own[1];
-    let rate = own[2];
-    let time = travel::segment_time(kind, length, rate);
-    texts::sheet(texts::SEGMENTS + kind, &[of, length, rate, time]);
+    let third = own[2];
+    let fourth = own[3];
+    let fifth = own[4];
+    let time = travel::segment_time(kind, length, third, fourth, fifth);
+    let text = texts::SEGMENTS + kind;
+    match kind {
+        SHEET | CHANNEL => texts::sheet(text, &[of, length, third, fourth, fifth, time]),
+        _ => texts::sheet(text, &[of, length, third, time]),
+    }
 }
 
-fn line(item: u64, of: u64, own: &[u64])
-    requires { ⌜ length (now own) ≡ triple ⌝ }
-{
+fn line(item: u64, of: u64, own: &[u64]) {
     match item {
         PATCH => patch_line(of, own),
         SEGMENT => segment_line(of, own),
@@ -47,14 +47,14 @@ fn line(item: u64, of: u64, own: &[u64])
     }
 }
 
-// Each item of a list that has three numbers an item.
-pub(crate) fn lines(item: u64, of: u64, list: &[u64]) {
-    let n = list.len() / TRIPLE;
-    let mut i = 0;
-    while i < n {
-        let a = TRIPLE * i;
-        let e = a + TRIPLE;
-        line(item, of, &list[a..e]);
-        i += 1;
+// Each item of a list that has so many numbers an item.
+pub(crate) fn lines(item: u64, width: usize, of: u64, list: &[u64])
+    requires { ⌜ 1 ≤ width ⌝ }
+{
+    let mut at = 0;
+    while width <= list.len() - at {
+        let e = at + width;
+        line(item, of, &list[at..e]);
+        at = e;
     }
 }

@@ -13,18 +13,18 @@ pub(crate) const SUBAREA: u64 = 2;
 // The lines of soil groups 1 to 4 stand behind this one.
 pub(crate) const PATCHES: u64 = 3;
 
-// The lines of kinds 1 to 3 stand behind this one.
+// The lines of kinds 1 to 5 stand behind this one.
 pub(crate) const SEGMENTS: u64 = 8;
 
-pub(crate) const POND: u64 = 12;
+pub(crate) const POND: u64 = 14;
 
-pub(crate) const POND_ROW: u64 = 13;
+pub(crate) const POND_ROW: u64 = 15;
 
-pub(crate) const ROWS: u64 = 14;
+pub(crate) const ROWS: u64 = 16;
 
-pub(crate) const ROW: u64 = 15;
+pub(crate) const ROW: u64 = 17;
 
-pub(crate) const FIGURES: u64 = 16;
+pub(crate) const FIGURES: u64 = 18;
 
 // A text of the sheet with its values.
 pub(crate) fn sheet(k: u64, values: &[u64]) {
@@ -42,10 +42,12 @@ pub(crate) fn sheet(k: u64, values: &[u64]) {
         |####### ######     B ########.00 #############\n\
         |####### ######     C ########.00 #############\n\
         |####### ######     D ########.00 #############\n\
-        |\nSubarea      Kind  Length, ft  Slope, ft/ft  Velocity, ft/s  Time, s\n\
-        |#######   unpaved ########### ########.0000                 ########\n\
-        |#######     paved ########### ########.0000                 ########\n\
-        |#######     given ###########                    #######.00 ########\n\
+        |\nSubarea      Kind  Length, ft      n  P2, in  r, ft  Slope, ft/ft  Velocity, ft/s  Time, s\n\
+        |#######   unpaved ###########                       ########.0000                 ########\n\
+        |#######     paved ###########                       ########.0000                 ########\n\
+        |#######     given ###########                                          #######.00 ########\n\
+        |#######     sheet ########### ##.000 ###.000        ########.0000                 ########\n\
+        |#######   channel ########### ##.000         ###.00 ########.0000                 ########\n\
         |\n       Stage, ft      Storage, cf  Discharge, cfs\n\
         |############.000 ############.000 ###########.000\n\
         |\n             Row     h:mm:ss      Inflow, cf  Outflow, cfs      Storage, cf  Stage, ft\n\
@@ -92,19 +94,19 @@ pub(crate) const PATCH_COLUMNS: u64 = 25;
 
 pub(crate) const SEGMENT_COLUMNS: u64 = 28;
 
-pub(crate) const POND_COLUMNS: u64 = 31;
+pub(crate) const POND_COLUMNS: u64 = 33;
 
-pub(crate) const OF_SUBAREA: u64 = 34;
+pub(crate) const OF_SUBAREA: u64 = 36;
 
-pub(crate) const AT_MOST: u64 = 35;
+pub(crate) const AT_MOST: u64 = 37;
 
-pub(crate) const AT_MOST_ROWS: u64 = 36;
+pub(crate) const AT_MOST_ROWS: u64 = 38;
 
-pub(crate) const LINE_END: u64 = 37;
+pub(crate) const LINE_END: u64 = 39;
 
 // By the refusal's number: what the place counts, and the rule. They stand last, so that a new one moves no other text; 15 to 18
 // are no study's.
-pub(crate) const RULES: u64 = 38;
+pub(crate) const RULES: u64 = 40;
 
 // A text of standard error, with a number.
 pub(crate) fn fault(k: u64, n: u64) {
@@ -123,7 +125,8 @@ pub(crate) fn fault(k: u64, n: u64) {
         |the number of rows|the step|the first row number|the number of rain entries|rain entry #\
         |the number of subareas|the number of patches||the number of segments||the number of pond rows||the end of the file\
         |the cover of patch #|the soil group of patch #|the area of patch #\
-        |the kind of segment #|the length of segment #|the rate of segment #\
+        |the kind of segment #|the length of segment #|the slope, velocity or n of segment #\
+        |the 2-year rain or radius of segment #|the slope of segment #\
         |the stage of pond row #|the storage of pond row #|the discharge of pond row #\
         | of subarea #\
         |, at most #\
@@ -136,7 +139,8 @@ pub(crate) fn fault(k: u64, n: u64) {
         |: the last row number must be at most 9,007,199,254,740,991\n\
         |: the number of subareas must be from 1 to 16\n\
         | (subarea): it must have 1 to 8 patches, each of cover 1 to 22, soil group 1 to 4 and 0.01 to 2,000 acres\n\
-        | (subarea): it must have 1 to 6 segments, each of kind 1 to 3, length 1 to 4,000 ft and slope or velocity 1 to 10,000\n\
+        | (subarea): it must have 1 to 6 segments, each of kind 1 to 5, length 1 to 4,000 ft, \
+        slope, velocity and radius 1 to 10,000, n 1 to 999 and 2-year rain 1 to 30,000; only the first may be a sheet segment (kind 4), of at most 300 ft\n\
         |: all subareas together must have at most 2,000 acres\n\
         | (subarea): its time of concentration must be at most 36,000 seconds\n\
         | (subarea): the step must not be longer than its time to peak\n\

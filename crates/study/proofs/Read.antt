@@ -1,4 +1,4 @@
--- Only what is read counts: lists of subareas that agree within the counts of each record are answered alike, whatever stands behind. Assumes nothing.
+-- Only what is read counts: lists of subareas that agree within the counts of each record are answered alike, whatever stands behind them and in spare numbers. Assumes nothing.
 use mathlib.Core.Path.{_≡_, refl, ap, _∙_}
 use mathlib.Core.Bool.{Bool, _&&_}
 use mathlib.Core.List.{List, [], _∷_, _++_, map}
@@ -11,7 +11,8 @@ use Rattle.laws.proofs.Scans.{scan-same}
 use Rattle.laws.proofs.Sums.{sum-same}
 use Rattle.curve.specs.CurveNumbers.{mostPatches, totalArea, composite, patchesIn, classArea, patchesGood}
 use Rattle.curve.specs.declared.Classes.{Classes}
-use Rattle.travel.specs.TravelTime.{mostSegments, concentration, timeToPeak, segmentsGood}
+use Rattle.travel.specs.TravelTime.{mostSegments, timeToPeak, segmentsGood}
+use Rattle.travel.proofs.Spare.{segments-same, concentration-same}
 use Rattle.hydrograph.specs.InflowRows.{part, concentrationGood, peakGood, weightsGood}
 use Rattle.pond.specs.PondRows.{empty}
 use Rattle.rows.specs.Routing.{outflows, storages}
@@ -33,7 +34,7 @@ module _ (r q : List ℕ) (same : SameRecord r q) where
   area-read = ap totalArea (same .patched)
 
   time-read : timeOf r ≡ timeOf q
-  time-read = ap concentration (same .routed)
+  time-read = concentration-same (segments r) (segments q) (same .routed)
 
   patches-read : patchesPass r ≡ patchesPass q
   unfolding patchesPass
@@ -45,7 +46,7 @@ module _ (r q : List ℕ) (same : SameRecord r q) where
   unfolding segmentsPass
   segments-read =
       ap (λ (n : ℕ). within 1 n mostSegments && segmentsGood (segments r)) (same .segment-count)
-      ∙ ap (λ (p : List ℕ). within 1 (segmentCount q) mostSegments && segmentsGood p) (same .routed)
+      ∙ ap (λ (good : Bool). within 1 (segmentCount q) mostSegments && good) (segments-same (segments r) (segments q) (same .routed))
 
   pub part-read : (g : Setup) (rain : List ℕ) (k : ℕ) → partOf g rain r k ≡ partOf g rain q k
   part-read g rain k =

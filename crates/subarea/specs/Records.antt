@@ -2,11 +2,11 @@
 use mathlib.Core.Path.{_≡_}
 use mathlib.Core.Bool.{Bool, _&&_}
 use mathlib.Core.List.{List}
-use Prim.Native.Nat.{ℕ, _*_, _/_, _<_}
+use Prim.Native.Nat.{ℕ, _+_, _*_, _/_, _<_}
 use lib.ListN.{length, getD, take, drop}
 use Rattle.laws.specs.Within.{within}
 use Rattle.curve.specs.CurveNumbers.{patchWidth, mostPatches, totalArea, composite, patchesGood}
-use Rattle.travel.specs.TravelTime.{segmentWidth, mostSegments, concentration, timeToPeak, segmentsGood}
+use Rattle.travel.specs.TravelTime.{segmentWidth, mostSegments, concentration, timeToPeak, segmentsGood, SameSegments}
 use Rattle.subarea.specs.declared.Setup.{Setup}
 
 -- h, half the step
@@ -14,17 +14,17 @@ abbrev pub halfOf : Setup → ℕ
 halfOf g = g .step / 2
 
 -- a record: patch count, 8 patches, segment count, 6 segments
-abbrev pub width : ℕ
-width = 44
-
 abbrev pub patchesFrom : ℕ
 patchesFrom = 1
 
 abbrev pub segmentCountAt : ℕ
-segmentCountAt = 25
+segmentCountAt = patchesFrom + patchWidth * mostPatches
 
 abbrev pub segmentsFrom : ℕ
-segmentsFrom = 26
+segmentsFrom = segmentCountAt + 1
+
+abbrev pub width : ℕ
+width = segmentsFrom + segmentWidth * mostSegments
 
 -- how many records
 abbrev pub recordsIn : List ℕ → ℕ
@@ -68,12 +68,12 @@ patchesPass r = within 1 (patchCount r) mostPatches && patchesGood (patches r)
 unfoldable pub segmentsPass : List ℕ → Bool
 segmentsPass r = within 1 (segmentCount r) mostSegments && segmentsGood (segments r)
 
--- two records of which the same is read: their counts, and what stands within them
+-- two records of which the same is read: their counts, and what stands within them but for spare numbers of segments
 pub record SameRecord (r q : List ℕ) : Type 0 where
   pub patch-count : patchCount r ≡ patchCount q
   pub patched : patches r ≡ patches q
   pub segment-count : segmentCount r ≡ segmentCount q
-  pub routed : segments r ≡ segments q
+  pub routed : SameSegments (segments r) (segments q)
 
 -- two lists of subareas of which the same is read
 pub record SameRead (s u : List ℕ) : Type 0 where

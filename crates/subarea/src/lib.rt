@@ -13,13 +13,13 @@ pub struct Setup {
 }
 
 // A record: the patch count, MOST_PATCHES patches, the segment count, MOST_SEGMENTS segments.
-pub const WIDTH: usize = 44;
-
 pub const PATCHES: usize = 1;
 
-pub const SEGMENT_COUNT: usize = 25;
+pub const SEGMENT_COUNT: usize = PATCHES + curve::PATCH_WIDTH * curve::MOST_PATCHES;
 
-pub const SEGMENTS: usize = 26;
+pub const SEGMENTS: usize = SEGMENT_COUNT + 1;
+
+pub const WIDTH: usize = SEGMENTS + travel::SEGMENT_WIDTH * travel::MOST_SEGMENTS;
 
 // Are its patch count and its patches within their limits? A count out of limits means that no patch is read.
 pub fn patches_pass(own: &[u64]) -> bool

@@ -1,4 +1,5 @@
-pub mod Bisect
+pub mod Roots
 pub mod Times
 pub mod Limits
+pub mod Spare
 pub mod Answers

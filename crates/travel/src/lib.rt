@@ -1,80 +1,124 @@
 // Travel time: segment times, the time of concentration and the time to peak, in whole seconds.
+mod manning;
+
 ghost use mathlib.Core.Path.{_≡_};
-ghost use Prim.Native.Nat.{_*_, _^_, _<_};
-ghost use lib.Dec.{leb};
+ghost use Prim.Native.Nat.{_<_};
 ghost use Rattle.laws.specs.Scan.{scan};
-ghost use Rattle.travel.specs.TravelTime.{largest, segmentsIn, kind, span, rate, shallow, segmentTime, concentration, timeToPeak, segmentGood, segmentsGood};
+ghost use Rattle.travel.specs.TravelTime.{segmentWidth, segmentsIn, numberOf, shallow, segmentTime, segmentTimeAt, concentration, timeToPeak, ratedWithin, sheetWithin, channelWithin, segmentWithin, placeWithin, segmentGood, segmentsGood};
 ghost use Rattle.travel.specs.Needs.{ShallowOk, SegmentOk, SegmentsOk, TimeOk};
 
 // The numbers of a segment in a list, and the segments that a subarea can have.
-pub const SEGMENT_WIDTH: usize = 3;
+pub const SEGMENT_WIDTH: usize = 5;
 
 pub const MOST_SEGMENTS: usize = 6;
 
+// Kinds of segments. The last two have five numbers, the others three and two spare ones.
+const UNPAVED: u64 = 1;
+
+const PAVED: u64 = 2;
+
+const GIVEN: u64 = 3;
+
+pub const SHEET: u64 = 4;
+
+pub const CHANNEL: u64 = 5;
+
 // K of TR-55 appendix F, in ten-thousandths.
-const UNPAVED: u64 = 161345;
+const UNPAVED_FACTOR: u64 = 161345;
 
-const PAVED: u64 = 203282;
+const PAVED_FACTOR: u64 = 203282;
 
-// The square root, down. Halving from 2^15 takes 15 rounds, whatever the square.
-fn root(square: u64) -> u64
-    requires { ⌜ square < 2 ^ 30 ⌝ }
-    ensures { λ r. ⌜ r ≡ largest (λ T. leb (T * T) square) 32767 ⌝ }
-{
-    let mut low: u64 = 0;
-    let mut high: u64 = 32768;
-    while low + 1 < high {
-        let mid = (low + high) / 2;
-        if mid * mid <= square {
-            low = mid;
-        } else {
-            high = mid;
-        }
-    }
-    low
-}
+// Sheet flow runs at most so far, in ft.
+const MOST_SHEET: u64 = 300;
 
 // Divided first: T^2 K^2 s would not fit 64 bits, and L^2 10^12 just does.
 fn shallow_time(constant: u64, length: u64, slope: u64) -> u64
     requires { ⌜ ShallowOk constant length slope ⌝ }
     ensures { λ r. ⌜ r ≡ shallow constant length slope ⌝ }
 {
-    root(length * length * 1000000000000 / (constant * constant * slope))
+    roots::square::root(length * length * 1000000000000 / (constant * constant * slope))
 }
 
-// The time of one segment.
-pub fn segment_time(kind: u64, length: u64, rate: u64) -> u64
-    requires { ⌜ SegmentOk kind length rate ⌝ }
-    ensures { λ r. ⌜ r ≡ segmentTime kind length rate ⌝ }
+// The time of one segment. What stands third, fourth and fifth is by its kind.
+pub fn segment_time(kind: u64, length: u64, third: u64, fourth: u64, fifth: u64) -> u64
+    requires { ⌜ SegmentOk kind length third fourth fifth ⌝ }
+    ensures { λ r. ⌜ r ≡ segmentTime kind length third fourth fifth ⌝ }
 {
-    if kind == 1 {
-        return shallow_time(UNPAVED, length, rate);
+    if kind == UNPAVED {
+        return shallow_time(UNPAVED_FACTOR, length, third);
     }
-    if kind == 2 {
-        return shallow_time(PAVED, length, rate);
+    if kind == PAVED {
+        return shallow_time(PAVED_FACTOR, length, third);
     }
-    100 * length / rate
+    if kind == GIVEN {
+        return 100 * length / third;
+    }
+    if kind == SHEET {
+        return manning::sheet_time(length, third, fourth, fifth);
+    }
+    manning::channel_time(length, third, fourth, fifth)
 }
 
-fn kind_at(segments: &[u64], i: usize) -> u64
-    requires { ⌜ i < segmentsIn (now segments) ⌝ }
-    ensures { λ r. ⌜ r ≡ kind (now (segments .entry)) i ⌝ }
+// Number j of segment i.
+fn number_at(segments: &[u64], i: usize, j: usize) -> u64
+    requires { ⌜ (i < segmentsIn (now segments)) × (j < segmentWidth) ⌝ }
+    ensures { λ r. ⌜ r ≡ numberOf (now (segments .entry)) i j ⌝ }
 {
-    segments[SEGMENT_WIDTH * i]
+    segments[SEGMENT_WIDTH * i + j]
 }
 
-fn span_at(segments: &[u64], i: usize) -> u64
-    requires { ⌜ i < segmentsIn (now segments) ⌝ }
-    ensures { λ r. ⌜ r ≡ span (now (segments .entry)) i ⌝ }
+// Kinds 1, 2 and 3 are within their limits.
+fn rated_within(length: u64, rate: u64) -> bool
+    ensures { λ r. ⌜ r ≡ ratedWithin length rate ⌝ }
 {
-    segments[SEGMENT_WIDTH * i + 1]
+    laws::both(laws::within(1, length, 4000), laws::within(1, rate, 10000))
 }
 
-fn rate_at(segments: &[u64], i: usize) -> u64
-    requires { ⌜ i < segmentsIn (now segments) ⌝ }
-    ensures { λ r. ⌜ r ≡ rate (now (segments .entry)) i ⌝ }
+fn sheet_within(length: u64, n: u64, rain: u64, slope: u64) -> bool
+    ensures { λ r. ⌜ r ≡ sheetWithin length n rain slope ⌝ }
 {
-    segments[SEGMENT_WIDTH * i + 2]
+    laws::both(
+        laws::both(laws::within(1, length, MOST_SHEET), laws::within(1, n, 999)),
+        laws::both(laws::within(1, rain, 30000), laws::within(1, slope, 10000)),
+    )
+}
+
+fn channel_within(length: u64, n: u64, radius: u64, slope: u64) -> bool
+    ensures { λ r. ⌜ r ≡ channelWithin length n radius slope ⌝ }
+{
+    laws::both(
+        laws::both(laws::within(1, length, 4000), laws::within(1, n, 999)),
+        laws::both(
+            laws::within(1, radius, 10000),
+            laws::within(1, slope, 10000),
+        ),
+    )
+}
+
+// A segment is within the limits of its kind.
+fn segment_within(kind: u64, length: u64, third: u64, fourth: u64, fifth: u64) -> bool
+    ensures { λ r. ⌜ r ≡ segmentWithin kind length third fourth fifth ⌝ }
+{
+    if laws::within(UNPAVED, kind, GIVEN) {
+        return rated_within(length, third);
+    }
+    if kind == SHEET {
+        return sheet_within(length, third, fourth, fifth);
+    }
+    if kind == CHANNEL {
+        return channel_within(length, third, fourth, fifth);
+    }
+    false
+}
+
+// A segment of sheet flow stands first.
+fn place_within(kind: u64, i: usize) -> bool
+    ensures { λ r. ⌜ r ≡ placeWithin kind i ⌝ }
+{
+    if kind == SHEET {
+        return i == 0;
+    }
+    true
 }
 
 // Segment i is within its limits.
@@ -82,13 +126,15 @@ fn segment_good(segments: &[u64], i: usize) -> bool
     requires { ⌜ i < segmentsIn (now segments) ⌝ }
     ensures { λ r. ⌜ r ≡ segmentGood (now (segments .entry)) i ⌝ }
 {
-    laws::both(
-        laws::within(1, kind_at(segments, i), 3),
-        laws::both(
-            laws::within(1, span_at(segments, i), 4000),
-            laws::within(1, rate_at(segments, i), 10000),
-        ),
-    )
+    let kind = number_at(segments, i, 0);
+    let own = segment_within(
+        kind,
+        number_at(segments, i, 1),
+        number_at(segments, i, 2),
+        number_at(segments, i, 3),
+        number_at(segments, i, 4),
+    );
+    laws::both(place_within(kind, i), own)
 }
 
 // The first segment out of its limits, or the number of segments.
@@ -120,6 +166,20 @@ pub fn segments_good(segments: &[u64]) -> bool
     )
 }
 
+// The time of segment i.
+fn time_at(segments: &[u64], i: usize) -> u64
+    requires { ⌜ SegmentsOk (now segments) × (i < segmentsIn (now segments)) ⌝ }
+    ensures { λ r. ⌜ r ≡ segmentTimeAt (now (segments .entry)) i ⌝ }
+{
+    segment_time(
+        number_at(segments, i, 0),
+        number_at(segments, i, 1),
+        number_at(segments, i, 2),
+        number_at(segments, i, 3),
+        number_at(segments, i, 4),
+    )
+}
+
 // The time of concentration.
 pub fn concentration(segments: &[u64]) -> u64
     requires { ⌜ SegmentsOk (now segments) ⌝ }
@@ -129,11 +189,7 @@ pub fn concentration(segments: &[u64]) -> u64
     let mut sum: u64 = 0;
     let mut i = 0;
     while i < n {
-        sum += segment_time(
-            kind_at(segments, i),
-            span_at(segments, i),
-            rate_at(segments, i),
-        );
+        sum += time_at(segments, i);
         i += 1;
     }
     if sum < 360 { 360 } else { sum }

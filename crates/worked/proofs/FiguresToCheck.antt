@@ -6,7 +6,8 @@ use Rattle.laws.specs.Scan.{scan}
 use Rattle.laws.specs.Sum.{sumTo}
 use Rattle.curve.specs.CurveNumbers.{coverTable, coverNumber, totalArea, weighted, nearest, composite}
 use Rattle.runoff.specs.RunoffDepth.{depth}
-use Rattle.travel.specs.TravelTime.{largest, shallow, segmentTime}
+use Rattle.roots.specs.Largest.{largest}
+use Rattle.travel.specs.TravelTime.{shallow, segmentTime}
 use Rattle.hydrograph.specs.InflowRows.{shape, time, ratio, lineAt, onLine, weight, volumeOf}
 use Rattle.pond.specs.PondRows.{sumAt, lower, between, dischargeAt, arrived, settled}
 use Rattle.rows.specs.Routing.{states, total}

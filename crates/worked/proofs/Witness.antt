@@ -1,5 +1,6 @@
 -- The witness holds, by computation; so there are rows that stand after a study, after an edit and after a rewriting, and the balance and the chain are of them. Assumes nothing.
 use mathlib.Core.Path.{_≡_, refl, subst}
+use mathlib.Core.Bool.{true≢false}
 use Prim.Native.Nat.{ℕ, zero, suc, _+_, _<_}
 use native.Mathlib.Omega.{arith}
 use Rattle.laws.specs.Scan.{scan}
@@ -7,13 +8,13 @@ use Rattle.laws.specs.Sum.{sumTo}
 use Rattle.laws.specs.Flat.{flatGood}
 use Rattle.curve.specs.CurveNumbers.{coverTable, coverNumber, classOf, totalArea, weighted, nearest, composite, patchWithin, patchesGood}
 use Rattle.runoff.specs.RunoffDepth.{depth}
-use Rattle.travel.specs.TravelTime.{segmentTime, concentration, timeToPeak, segmentWithin, segmentsGood}
+use Rattle.travel.specs.TravelTime.{segmentTime, concentration, timeToPeak, segmentWithin, placeWithin, segmentsGood, SameSegment}
 use Rattle.hydrograph.specs.InflowRows.{shape, time, ratio, lineAt, onLine, weight, totalWeight, runoffAt, depthReleased, volumeOf, part, concentrationGood, peakGood, weightsGood}
 use Rattle.pond.specs.PondRows.{sumAt, lower, between, dischargeAt, stageAt, arrived, settled, countGood, rowWithin, orderGood}
 use Rattle.rows.specs.Routing.{states, passed, overRow, stateBefore}
 use Rattle.rows.specs.Figures.{at, releaseAt, maxTo, peakRow, keptTo, figuresOf, standsWithin}
 use Rattle.refusals.specs.Refusals.{firstAfter}
-use Rattle.subarea.specs.Records.{recordAt, patchesPass, segmentsPass, SameRecord, SameRead}
+use Rattle.subarea.specs.Records.{recordAt, segments, patchesPass, segmentsPass, SameRecord, SameRead}
 use Rattle.checks.specs.Site.{Rows, withSubareas}
 use Rattle.checks.specs.Order.{lengthsGood, stepGood, entriesGood, lastGood, recordsGood}
 use Rattle.inflow.specs.Inflow.{rowsFrom}
@@ -25,7 +26,7 @@ use Rattle.edit.proofs.EditIsStudy.{chain, standing-balance}
 use Rattle.worked.specs.Witness.{parkingBefore, parking, siteOf, lent, small, large, smallFigures, enlarged, Witness}
 
 pub witness : Witness
-unfolding scan sumTo flatGood coverTable coverNumber classOf totalArea weighted nearest composite patchWithin patchesGood depth segmentTime concentration timeToPeak segmentWithin segmentsGood shape time ratio lineAt onLine weight totalWeight runoffAt depthReleased volumeOf part concentrationGood peakGood weightsGood sumAt lower between dischargeAt stageAt arrived settled countGood rowWithin orderGood states passed overRow stateBefore maxTo peakRow keptTo figuresOf standsWithin firstAfter patchesPass segmentsPass lengthsGood stepGood entriesGood lastGood recordsGood rowsFrom overCheck studyRefusal studyAnswer studyRows swapped firstChanged placeGood inflowFits overFrom editRefusal editedOf editAnswer editRows
+unfolding scan sumTo flatGood coverTable coverNumber classOf totalArea weighted nearest composite patchWithin patchesGood depth segmentTime concentration timeToPeak segmentWithin placeWithin segmentsGood shape time ratio lineAt onLine weight totalWeight runoffAt depthReleased volumeOf part concentrationGood peakGood weightsGood sumAt lower between dischargeAt stageAt arrived settled countGood rowWithin orderGood states passed overRow stateBefore maxTo peakRow keptTo figuresOf standsWithin firstAfter patchesPass segmentsPass lengthsGood stepGood entriesGood lastGood recordsGood rowsFrom overCheck studyRefusal studyAnswer studyRows swapped firstChanged placeGood inflowFits overFrom editRefusal editedOf editAnswer editRows
 witness =
     record {
       study-answers = refl;
@@ -52,8 +53,12 @@ stands-edited =
 unread : SameRead (parking 2) (parkingBefore 9 2)
 unread = record { long = refl; each = only }
   where
+    route : (i : ℕ) → i < 1 → SameSegment (segments (parking 2)) (segments (parkingBefore 9 2)) i
+    route zero h = record { first = refl; second = refl; third = refl; fourth = λ e. absurd (true≢false e); fifth = λ e. absurd (true≢false e) }
+    route (suc i) h = absurd (omega arith)
+
     only : (i : ℕ) → i < 1 → SameRecord (recordAt (parking 2) i) (recordAt (parkingBefore 9 2) i)
-    only zero h = record { patch-count = refl; patched = refl; segment-count = refl; routed = refl }
+    only zero h = record { patch-count = refl; patched = refl; segment-count = refl; routed = record { long = refl; each = route } }
     only (suc i) h = absurd (omega arith)
 
 pub stands-rewritten : Standing (withSubareas (siteOf 2) (parkingBefore 9 2)) large

@@ -1,9 +1,11 @@
 -- A witness that the definitions are of something: one small study that is done, one edit of its rows that is done, and two that are refused.
 use mathlib.Core.Path.{_≡_}
 use mathlib.Core.List.{List, [], _∷_, _++_}
-use Prim.Native.Nat.{ℕ}
+use Prim.Native.Nat.{ℕ, _-_, _*_}
 use lib.IntN.{pos}
 use lib.ListN.{replicate}
+use Rattle.curve.specs.CurveNumbers.{patchWidth, mostPatches}
+use Rattle.travel.specs.TravelTime.{segmentWidth, mostSegments}
 use Rattle.refusals.specs.Refusals.{refuse}
 use Rattle.checks.specs.Site.{Site, Rows}
 use Rattle.study.specs.declared.Figures.{Figures}
@@ -14,9 +16,10 @@ use Rattle.edit.specs.declared.EditAnswer.the-variants.{Refused, Done}
 use Rattle.edit.specs.Edit.{editAnswer, editRows}
 use Rattle.worked.specs.Lines.{twoRows}
 
--- a subarea of an area: one patch of cover code 4 on soil group A, and one segment of kind 3, 360 ft at 1 ft/s (Tc 360, Tp 216); and what stands behind them
+-- a subarea of an area: one patch of cover code 4 on soil group A, and one segment of kind 3, 360 ft at 1 ft/s (Tc 360, Tp 216); and what stands in the spare numbers and behind them
 abbrev pub parkingBefore : ℕ → ℕ → List ℕ
-parkingBefore unread area = (1 ∷ 4 ∷ 1 ∷ area ∷ replicate 21 unread) ++ (1 ∷ 3 ∷ 360 ∷ 100 ∷ replicate 15 unread)
+parkingBefore unread area =
+    (1 ∷ 4 ∷ 1 ∷ area ∷ replicate (patchWidth * mostPatches - 3) unread) ++ (1 ∷ 3 ∷ 360 ∷ 100 ∷ replicate (segmentWidth * mostSegments - 3) unread)
 
 abbrev pub parking : ℕ → List ℕ
 parking area = parkingBefore 0 area

@@ -10,6 +10,10 @@
 
 #include "bridletenon.h"
 
+#if BT_INTERFACE != 2
+#error "this host was written for interface 2"
+#endif
+
 enum {
     STEP = 300,  /* seconds */
     FIRST = 1,   /* the first row's number */
@@ -20,24 +24,31 @@ enum {
 /* Cumulative, in thousandths of an inch, from 0 on: 3 inches in an hour. */
 static const uint64_t rain[] = { 0, 60, 150, 300, 600, 1400, 2200, 2500, 2700, 2830, 2920, 2970, 3000 };
 
-/* Half-acre lots with a parking place, 10 acres; woods and grass, 6 acres. */
+/* Half-acre lots with a parking place, 10 acres; woods and grass, 6 acres. A segment's kind says which member of 'by'
+   holds its numbers. */
 static bt_subarea list[SUBAREAS] = {
     { .patch_count = 2,
       .patches = { { .cover = 14, .soil = 2, .area = 800 }, { .cover = 4, .soil = 2, .area = 200 } },
       .segment_count = 2,
-      .segments = { { .kind = 1, .length = 300, .rate = 200 }, { .kind = 3, .length = 1200, .rate = 250 } } },
+      .segments = { { .kind = BT_SEGMENT_UNPAVED, .length = 300, .by.shallow = { .slope = 200 } },
+                    { .kind = BT_SEGMENT_GIVEN, .length = 1200, .by.given = { .velocity = 250 } } } },
     { .patch_count = 1,
       .patches = { { .cover = 20, .soil = 3, .area = 600 } },
       .segment_count = 1,
-      .segments = { { .kind = 1, .length = 1500, .rate = 300 } } },
+      .segments = { { .kind = BT_SEGMENT_UNPAVED, .length = 1500, .by.shallow = { .slope = 300 } } } },
 };
 
-/* The second of them once it is built over: one acre is left as it was, and the water runs along a street. */
+/* The second of them once it is built over: one acre is left as it was, and the water runs down a lawn, along a street
+   and through a ditch. */
 static const bt_subarea built = {
     .patch_count = 2,
     .patches = { { .cover = 12, .soil = 3, .area = 500 }, { .cover = 20, .soil = 3, .area = 100 } },
-    .segment_count = 1,
-    .segments = { { .kind = 2, .length = 1900, .rate = 300 } },
+    .segment_count = 3,
+    .segments = {
+        { .kind = BT_SEGMENT_SHEET, .length = 100, .by.sheet = { .n = 150, .rain = 3600, .slope = 200 } },
+        { .kind = BT_SEGMENT_PAVED, .length = 1400, .by.shallow = { .slope = 300 } },
+        { .kind = BT_SEGMENT_CHANNEL, .length = 400, .by.channel = { .n = 30, .radius = 80, .slope = 100 } },
+    },
 };
 
 /* Stage, storage and discharge, in thousandths of a foot, of a cubic foot and of a cubic foot a second. */
@@ -132,6 +143,10 @@ static int print_mark(uint64_t row)
 
 int main(void)
 {
+    if (bt_interface() != BT_INTERFACE) {
+        printf("the engine that is linked has another interface than the header\n");
+        return 1;
+    }
     if (slip() != 0 || work_study() != 0 || build_over() != 0)
         return 1;
     for (uint64_t row = 1; row <= ROWS; row++)

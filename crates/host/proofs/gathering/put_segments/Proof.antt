@@ -27,14 +27,14 @@ mul-g c = search needs
 array-copy-out-g : tie.Need-array-copy-out-g Inv-loop μ-loop
 array-copy-out-g c = search needs
 
-mul-put-three : tie.Need-mul-put-three Inv-loop μ-loop
-mul-put-three c = search needs
+mul-put-segment : tie.Need-mul-put-segment Inv-loop μ-loop
+mul-put-segment c = search needs
 
-add-put-three : tie.Need-add-put-three Inv-loop μ-loop
-add-put-three c = search needs
+add-put-segment : tie.Need-add-put-segment Inv-loop μ-loop
+add-put-segment c = search needs
 
-put-three-requires : tie.Need-put-three-requires Inv-loop μ-loop
-put-three-requires c κs = search needs
+put-segment-requires : tie.Need-put-segment-requires Inv-loop μ-loop
+put-segment-requires c κs = search needs
 
 add-k : tie.Need-add-k Inv-loop μ-loop
 add-k c = search needs
@@ -43,7 +43,7 @@ loop-less : tie.Need-loop-less Inv-loop μ-loop
 loop-less c = search needs
 
 loop-again : tie.Need-loop-again Inv-loop μ-loop
-loop-again c = (search needs, segments-step _ _ _ _ _ (c .before .before .before .before .before .args .t3) (c .before .before .before .before .loop .inv .1) (c .put-three .ensures))
+loop-again c = (search needs, segments-step _ _ _ _ _ (c .before .before .before .before .before .args .t3) (c .before .before .before .before .loop .inv .1) (c .put-segment .ensures))
 
 returns : tie.Need-returns Inv-loop μ-loop
 returns c = c .before .loop .inv .1 ∙ ap (λ (n : ℕ). sets (c .before .before .args .to .now) (c .before .before .args .at) (segmentsTo n (c .before .before .args .t3))) (le-antisymm (c .before .loop .inv .0) (search needs))
@@ -57,9 +57,9 @@ put-segments-spec =
     loop-holds
     mul-g
     array-copy-out-g
-    mul-put-three
-    add-put-three
-    put-three-requires
+    mul-put-segment
+    add-put-segment
+    put-segment-requires
     add-k
     loop-less
     loop-again

@@ -1,6 +1,6 @@
 -- `reading::lists::fill` is safe and ends. The measure is what is left of the list.
 use mathlib.Core.Path.{_≡_}
-use Prim.Native.Nat.{_≤_, _-_}
+use Prim.Native.Nat.{_-_}
 use lib.ListN.{length, length-set}
 use native.Mathlib.Omega.{arith}
 use borrow.Author.Needs.{needs}
@@ -8,10 +8,10 @@ use Rattle.reading.proofs.lists.fill.Statement.{statement}
 use Rattle.reading.proofs.lists.fill.Tie as tie
 
 abbrev Inv-loop : tie.InvT-loop
-Inv-loop s item of list₀ r₀ k₀ list r k = (k ≤ length list) × (length list ≡ length list₀)
+Inv-loop s item of from list₀ r₀ k₀ list r k = length list ≡ length list₀
 
 abbrev μ-loop : tie.MeasureT-loop
-μ-loop s item of list₀ r₀ k₀ list r k = length list - k
+μ-loop s item of from list₀ r₀ k₀ list r k = length list - k
 
 loop-less : tie.Need-loop-less Inv-loop μ-loop
 loop-less c = simp length-set (omega arith)

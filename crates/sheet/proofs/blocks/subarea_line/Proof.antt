@@ -1,11 +1,11 @@
 -- `sheet::blocks::subarea_line` prints what a record gives that passes refusals 6 and 7.
 use mathlib.Core.Path.{_≡_, sym, _∙_}
 use mathlib.Core.Bool.{true}
-use Prim.Native.Nat.{_≤_}
+use Prim.Native.Nat.{_*_, _≤_}
 use borrow.Author.Tests.{not-false}
 use native.Mathlib.Omega.{arith}
-use Rattle.travel.specs.TravelTime.{timeToPeak}
-use Rattle.travel.specs.Needs.{TimeOk}
+use Rattle.travel.specs.TravelTime.{mostSegments, timeToPeak}
+use Rattle.travel.specs.Needs.{TimeOk, mostSegmentTime}
 use Rattle.travel.proofs.Times.{concentration-ok}
 use Rattle.subarea.specs.Records.{segmentsPass}
 use Rattle.subarea.proofs.Subareas.{segments-fit}
@@ -21,8 +21,8 @@ routed c = sym (c .before .segments-pass .ensures) ∙ not-false _ (c .if2 .left
 timed : (c : tie.After-time) → TimeOk (c .time .result)
 timed c = rw (c .time .ensures) (concentration-ok (segments-fit (c .before .before .before .before .before .before .before .args .own .now) (routed (c .before .before))))
 
--- which is not above 3 fifths of the longest time
-peaked : (c : tie.After-time-to-peak) → c .time-to-peak .result ≤ 1440000
+-- which is not above the longest time
+peaked : (c : tie.After-time-to-peak) → c .time-to-peak .result ≤ mostSegments * mostSegmentTime
 unfolding timeToPeak
 peaked c = omega (arith, c .time-to-peak .ensures, timed (c .before) .most)
 

@@ -1,10 +1,10 @@
--- `reading::lists::triples` writes within its part of a record.
+-- `reading::lists::patches` writes within its part of a record.
 use mathlib.Core.Path.{_∙_}
 use lib.ListN.{length-set}
 use native.Mathlib.Omega.{arith}
 use borrow.Author.Needs.{needs}
-use Rattle.reading.proofs.lists.triples.Statement.{statement}
-use Rattle.reading.proofs.lists.triples.Tie as tie
+use Rattle.reading.proofs.lists.patches.Statement.{statement}
+use Rattle.reading.proofs.lists.patches.Tie as tie
 
 part-fill-end : tie.Need-part-fill-end
 part-fill-end c = simp length-set (omega arith)
@@ -12,8 +12,8 @@ part-fill-end c = simp length-set (omega arith)
 same-length : tie.Need-same-length
 same-length c = c .before .own .given .1 ∙ simp length-set
 
-pub triples-spec : {M : Type 1} → statement M
-triples-spec =
+pub patches-spec : {M : Type 1} → statement M
+patches-spec =
     tie.close
     (tie.spec (λ c κs. search needs) (λ c. search needs) (λ c. search needs)
     (λ c. search needs) (λ c. search needs) (λ c. search needs) (λ c. search needs) part-fill-end

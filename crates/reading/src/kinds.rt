@@ -1,0 +1,18 @@
+// How many numbers a segment has in a file, by its kind.
+use travel::CHANNEL;
+use travel::SHEET;
+ghost use Prim.Native.Nat.{_≤_};
+ghost use Rattle.travel.specs.TravelTime.{segmentWidth};
+
+// A kind has its length and one rate, also one that the engine refuses, but sheet and channel flow: those have a number for each
+// place of a segment.
+const RATED: usize = 3;
+
+pub(crate) fn numbers_of(kind: u64) -> usize
+    ensures { λ r. ⌜ r ≤ segmentWidth ⌝ }
+{
+    match kind {
+        SHEET | CHANNEL => travel::SEGMENT_WIDTH,
+        _ => RATED,
+    }
+}
