@@ -8,7 +8,7 @@ ghost use Rattle.wide.specs.Limbs.{value, Wide, Holds, TimesOk, PowerOk,
 pub const LIMBS: usize = 12;
 
 // A number below 2^32.
-pub fn from(x: u64) -> [u64; LIMBS]
+fn from(x: u64) -> [u64; LIMBS]
     requires { ⌜ x < 2 ^ 32 ⌝ }
     ensures { λ r. ⌜ Holds r x ⌝ }
 {
@@ -18,7 +18,7 @@ pub fn from(x: u64) -> [u64; LIMBS]
 }
 
 // Multiplies by a factor.
-pub fn times(w: &mut [u64; LIMBS], factor: u64)
+fn times(w: &mut [u64; LIMBS], factor: u64)
     requires { ⌜ TimesOk (now w) factor ⌝ }
     ensures { λ _. ⌜ Holds (now (w .exit)) (value (now (w .entry)) * factor) ⌝ }
 {
@@ -58,7 +58,7 @@ pub fn times_power(w: &mut [u64; LIMBS], factor: u64, exponent: u64)
 }
 
 // A power.
-pub fn one_power(a: u64, i: u64) -> [u64; LIMBS]
+fn one_power(a: u64, i: u64) -> [u64; LIMBS]
     requires { ⌜ OneOk a i ⌝ }
     ensures { λ r. ⌜ Holds r (a ^ i) ⌝ }
 {
