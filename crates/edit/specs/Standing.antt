@@ -20,7 +20,7 @@ abbrev pub studyIn : EditAnswer → StudyAnswer
 studyIn (Refused v) = Study.Refused v
 studyIn (Done e) = Study.Done (e .figures)
 
--- rows l stand on the site x: a done study of x left them; or a done edit of rows standing on a site, at a listed place, left them and x is that site altered; or they stand on a site of whose subareas the same is read (a host may rewrite what stands behind a record's counts)
+-- rows l stand on the site x: a done study of x left them; or a done edit of rows standing on a site, at a listed place, left them and x is that site altered; or they stand on a site of whose subareas the same is read (a host may rewrite what stands behind a record's counts and in spare numbers)
 pub data Standing : Site → Rows → Type 0 where
   studied : (x : Site) (l : Rows) (f : Figures) → studyAnswer x l ≡ Study.Done f → Standing x (studyRows x l)
   edited : (x : Site) (l : Rows) → Standing x l → (k : ℕ) → 1 ≤ k → k ≤ recordsIn (x .subareas) → (r : List ℕ) → length r ≡ width

@@ -4,8 +4,7 @@ use travel::SHEET;
 ghost use Prim.Native.Nat.{_≤_};
 ghost use Rattle.travel.specs.TravelTime.{segmentWidth};
 
-// A kind has its length and one rate, also one that the engine refuses, but sheet and channel flow: those have a number for each
-// place of a segment.
+// Kind, length and one rate, also of a kind that the engine refuses; sheet and channel flow have a number for each place.
 const RATED: usize = 3;
 
 pub(crate) fn numbers_of(kind: u64) -> usize

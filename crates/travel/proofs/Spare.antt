@@ -30,27 +30,22 @@ time-spare k L a b c d e h =
     let o = kept 1 k 3 h in
     pick-same (eqb k 1) _ _ _ (λ one. pick-same (eqb k 2) _ _ _ (λ two. pick-same (eqb k 3) _ _ _ (λ three. absurd (omega (arith, o .low, o .high, eqb-false k 1 one, eqb-false k 2 two, eqb-false k 3 three)))))
 
+-- what does so is the same of two segments of which the same is read
+read-same : {A : Type 0} (f : ℕ → ℕ → ℕ → ℕ → ℕ → A) → ((k L a b c d e : ℕ) → within 1 k 3 ≡ true → f k L a b c ≡ f k L a d e) → (g q : List ℕ) (i : ℕ) → SameSegment g q i
+    → f (kind g i) (numberOf g i 1) (numberOf g i 2) (numberOf g i 3) (numberOf g i 4) ≡ f (kind q i) (numberOf q i 1) (numberOf q i 2) (numberOf q i 3) (numberOf q i 4)
+read-same f spare g q i s = go (within 1 (kind g i) 3) refl
+  where
+    go : (t : Bool) → within 1 (kind g i) 3 ≡ t → f (kind g i) (numberOf g i 1) (numberOf g i 2) (numberOf g i 3) (numberOf g i 4) ≡ f (kind q i) (numberOf q i 1) (numberOf q i 2) (numberOf q i 3) (numberOf q i 4)
+    go true e = cc (s .first, s .second, s .third, spare (kind g i) (numberOf g i 1) (numberOf g i 2) (numberOf g i 3) (numberOf g i 4) (numberOf q i 3) (numberOf q i 4) e)
+    go false e = cc (s .first, s .second, s .third, s .fourth e, s .fifth e)
+
 module _ (g q : List ℕ) (same : SameSegments g q) where
   -- a segment's test and its time
   good-same : (i : ℕ) → i < segmentsIn g → segmentGood g i ≡ segmentGood q i
-  good-same i l = go (within 1 (kind g i) 3) refl
-    where
-      s : SameSegment g q i
-      s = same .each i l
-
-      go : (t : Bool) → within 1 (kind g i) 3 ≡ t → segmentGood g i ≡ segmentGood q i
-      go true e = cc (s .first, s .second, s .third, within-spare (kind g i) (numberOf g i 1) (numberOf g i 2) (numberOf g i 3) (numberOf g i 4) (numberOf q i 3) (numberOf q i 4) e)
-      go false e = cc (s .first, s .second, s .third, s .fourth e, s .fifth e)
+  good-same i l = cc (same .each i l .first, read-same segmentWithin within-spare g q i (same .each i l))
 
   time-same : (i : ℕ) → i < segmentsIn g → segmentTimeAt g i ≡ segmentTimeAt q i
-  time-same i l = go (within 1 (kind g i) 3) refl
-    where
-      s : SameSegment g q i
-      s = same .each i l
-
-      go : (t : Bool) → within 1 (kind g i) 3 ≡ t → segmentTimeAt g i ≡ segmentTimeAt q i
-      go true e = cc (s .first, s .second, s .third, time-spare (kind g i) (numberOf g i 1) (numberOf g i 2) (numberOf g i 3) (numberOf g i 4) (numberOf q i 3) (numberOf q i 4) e)
-      go false e = cc (s .first, s .second, s .third, s .fourth e, s .fifth e)
+  time-same i l = read-same segmentTime time-spare g q i (same .each i l)
 
   -- those of the list
   pub segments-same : segmentsGood g ≡ segmentsGood q

@@ -1,16 +1,15 @@
 -- What the travel time is: the root of kinds 1 and 2 is the largest of all whole numbers, and times of all kinds are within bounds. Assumes nothing.
-use mathlib.Core.Path.{_≡_, refl, sym}
-use mathlib.Core.Bool.{Bool, true, false}
+use mathlib.Core.Path.{_≡_}
 use mathlib.Core.List.{List}
 use mathlib.Core.Logic.{_↔_}
 use Prim.Native.Nat.{ℕ, _*_, _/_, _^_, _≤_, _<_}
 use lib.Dec.{leb, eqb}
 use native.Mathlib.Nat.{mul-one, mul-le-mul, mul-le-mul-right, le-div-iff-mul-le, div-lt-iff-lt-mul, div-le-of-le-mul}
 use native.Mathlib.Omega.{arith}
-use borrow.Author.Tests.{leb-true, leb-false, le-leb, lt-leb, eqb-true, eqb-false}
+use borrow.Author.Tests.{eqb-true, eqb-false}
 use Rattle.laws.specs.Pick.{pick}
 use Rattle.laws.specs.Sum.{sumTo}
-use Rattle.laws.proofs.Tests.{by-test}
+use Rattle.laws.proofs.Tests.{by-test, leb-same}
 use Rattle.laws.proofs.Sums.{sum-most}
 use Rattle.roots.specs.Largest.{largest, powers, mostSquare}
 use Rattle.roots.proofs.Bisect.{largest-same, largest-bound}
@@ -21,11 +20,7 @@ use Rattle.travel.proofs.Roots.{sheet-most, channel-most}
 
 -- a test against a quotient, down, is the test multiplied out
 pub leb-div : (x a b : ℕ) → 0 < b → leb x (a / b) ≡ leb (x * b) a
-leb-div x a b pos = go (leb x (a / b)) refl
-  where
-    go : (t : Bool) → leb x (a / b) ≡ t → t ≡ leb (x * b) a
-    go true e = sym (le-leb (x * b) a (le-div-iff-mul-le pos .0 (leb-true x (a / b) e)))
-    go false e = sym (lt-leb (x * b) a (div-lt-iff-lt-mul pos .0 (leb-false x (a / b) e)))
+leb-div x a b pos = leb-same x (a / b) (x * b) a (le-div-iff-mul-le pos .1) (div-lt-iff-lt-mul pos .1)
 
 module _ {K L s : ℕ} (ok : ShallowOk K L s) where
   -- L^2 10^12 fits 64 bits
