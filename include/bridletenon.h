@@ -25,9 +25,11 @@ extern "C" {
 
 /* ---- What is lent */
 
-/* The number of this interface, raised with each change of a layout or of a signature. bt_interface gives that of the
-   engine that is linked: where the two differ, the host was built for another one and must not call it. */
-#define BT_INTERFACE 2
+/* The number of this interface, raised with each change of a layout, of a signature, or of the rows that a study
+   leaves. bt_interface gives that of the engine that is linked: where the two differ, the host was built for another one
+   and must not call it. A host that keeps rows keeps the number beside them: rows of a lower one may be of another rule,
+   which nothing in them shows (docs/HOST.md, 'Rows kept from before a request'). */
+#define BT_INTERFACE 3
 
 uint64_t bt_interface(void);
 

@@ -6,9 +6,6 @@ mod studies;
 // Above every limit of the engine.
 pub const NONE: u64 = 1000000000000000;
 
-// Document 01's least step; the base rule's time to peak is the same at every step.
-const STEP: u64 = 60;
-
 // No segment takes longer: a channel as rough and as long as may be, at the least radius and slope.
 const MOST_SEGMENT_TIME: u64 = 5777933;
 
@@ -122,15 +119,23 @@ fn segment(kind: u64, length: u64, third: u64, fourth: u64, fifth: u64) -> u64 {
     }
 }
 
-// Tc and Tp of segments, five numbers each.
-fn path(segments: &[u64]) -> Four {
+// Tc and Tp of segments, five numbers each, at a step.
+fn path(step: u64, segments: &[u64]) -> Four {
     if travel::segments_good(segments) {
         let tc = travel::concentration(segments);
-        let at = timing(STEP, tc);
+        let at = timing(step, tc);
         two(tc, at.a)
     } else {
         one(NONE)
     }
+}
+
+// The step stands before the segments.
+fn flow(n: &[u64]) -> Four {
+    if n.len() < 1 {
+        return one(NONE);
+    }
+    path(n[0], &n[1..])
 }
 
 // Tp, and the first of refusals 9 to 11 that a Tc meets at a step, 0 for none.
@@ -219,7 +224,7 @@ pub fn given_by(function: u8, n: &[u64]) -> Four {
         b'd' => one(depth(at(n, 0), at(n, 1))),
         b'a' => depths(n, at(n, 0)),
         b's' => one(segment(at(n, 0), at(n, 1), at(n, 2), at(n, 3), at(n, 4))),
-        b'f' => path(n),
+        b'f' => flow(n),
         b't' => timing(at(n, 0), at(n, 1)),
         b'w' => one(weight(at(n, 0), at(n, 1), at(n, 2))),
         b'v' => volumes(n),

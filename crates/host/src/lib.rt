@@ -14,8 +14,9 @@ ghost use Rattle.answers.specs.EditNumbers.{editNumbersOf, changesOf};
 ghost use Rattle.answers.specs.MarkNumbers.{markNumbersOf};
 ghost use Rattle.host.specs.Interface.{interface};
 
-// Raised with each change of a layout or of a signature below; the header's BT_INTERFACE is the same.
-const INTERFACE: u64 = 2;
+// Raised with each change of a layout or of a signature below, or of the rows that a study leaves; the header's BT_INTERFACE is
+// the same.
+const INTERFACE: u64 = 3;
 
 // The number of the interface that this engine was built with.
 #[no_mangle]

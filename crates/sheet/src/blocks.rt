@@ -44,17 +44,23 @@ fn heading(setup: Setup, rows: u64, rain: &[u64]) {
     );
 }
 
-// How many steps lie in five times the time to peak. No study has a step of 0.
+// How many steps lie in five times the time to peak.
 fn weights(peak: u64, step: u64) -> u64
-    requires { ⌜ peak ≤ mostSegments * mostSegmentTime ⌝ }
+    requires { ⌜ (0 < step) × (peak ≤ mostSegments * mostSegmentTime) ⌝ }
 {
-    if step == 0 { 0 } else { 5 * peak / step }
+    5 * peak / step
 }
 
-// A study that was not refused has no record that fails these tests.
+// A study that was not refused has no step and no record that fails these tests.
 fn subarea_line(step: u64, number: u64, own: &[u64])
     requires { ⌜ length (now own) ≡ width ⌝ }
 {
+    if step < limits::LEAST_STEP {
+        return;
+    }
+    if step > limits::MOST_STEP {
+        return;
+    }
     if !subarea::patches_pass(own) {
         return;
     }

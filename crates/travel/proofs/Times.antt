@@ -2,7 +2,7 @@
 use mathlib.Core.Path.{_≡_}
 use mathlib.Core.List.{List}
 use mathlib.Core.Logic.{_↔_}
-use Prim.Native.Nat.{ℕ, _*_, _/_, _^_, _≤_, _<_}
+use Prim.Native.Nat.{ℕ, _+_, _*_, _/_, _^_, _≤_, _<_}
 use lib.Dec.{leb, eqb}
 use native.Mathlib.Nat.{mul-one, mul-le-mul, mul-le-mul-right, le-div-iff-mul-le, div-lt-iff-lt-mul, div-le-of-le-mul}
 use native.Mathlib.Omega.{arith}
@@ -84,12 +84,12 @@ module _ {g : List ℕ} (ok : SegmentsOk g) where
   unfolding concentration
   concentration-ok = record { least = omega arith; most = omega (arith, sum-bound (segmentsIn g) (omega arith), ok .most) }
 
--- a time to peak is at least 3 fifths of 360, whatever the step
-pub peak-range : (step : ℕ) {tc : ℕ} → TimeOk tc → 216 ≤ timeToPeak step tc
+-- a time to peak is at least 3 fifths of 360 and half the step
+pub peak-range : (D : ℕ) {tc : ℕ} → TimeOk tc → 216 + D / 2 ≤ timeToPeak D tc
 unfolding timeToPeak
-peak-range step ok = omega arith
+peak-range D ok = omega arith
 
--- and at most 3 fifths of the greatest Tc
-pub peak-most : (step : ℕ) {tc : ℕ} → TimeOk tc → timeToPeak step tc ≤ 3 * (mostSegments * mostSegmentTime) / 5
+-- and at most 3 fifths of the greatest Tc and half the step
+pub peak-most : (D : ℕ) {tc : ℕ} → TimeOk tc → timeToPeak D tc ≤ 3 * (mostSegments * mostSegmentTime) / 5 + D / 2
 unfolding timeToPeak
-peak-most step ok = omega arith
+peak-most D ok = omega arith

@@ -78,9 +78,9 @@ segmentTimeAt g i = segmentTime (kind g i) (numberOf g i 1) (numberOf g i 2) (nu
 unfoldable pub concentration : List ℕ → ℕ
 concentration g = max 360 (sumTo (segmentTimeAt g) (segmentsIn g))
 
--- Tp = 3 Tc / 5, down, at a step
+-- Tp = 3 Tc / 5, down, plus h, half the step D
 unfoldable pub timeToPeak : ℕ → ℕ → ℕ
-timeToPeak step tc = 3 * tc / 5
+timeToPeak D tc = 3 * tc / 5 + D / 2
 
 -- sheet flow runs at most so far, in ft
 abbrev pub mostSheet : ℕ

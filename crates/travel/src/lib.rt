@@ -195,10 +195,10 @@ pub fn concentration(segments: &[u64]) -> u64
     if sum < 360 { 360 } else { sum }
 }
 
-// The time to peak. Today's rule does not use the step; a later one adds half of it.
+// The time to peak: the lag, six tenths of the time of concentration, and half the step.
 pub fn time_to_peak(step: u64, concentration: u64) -> u64
     requires { ⌜ TimeOk concentration ⌝ }
     ensures { λ r. ⌜ r ≡ timeToPeak step concentration ⌝ }
 {
-    3 * concentration / 5
+    3 * concentration / 5 + step / 2
 }

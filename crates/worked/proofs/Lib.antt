@@ -1,2 +1,3 @@
 pub mod FiguresToCheck
+pub mod Peaks
 pub mod Witness

@@ -1,5 +1,5 @@
--- The witness holds, by computation; so there are rows that stand after a study, after an edit and after a rewriting, and the balance and the chain are of them. Assumes nothing.
-use mathlib.Core.Path.{_≡_, refl, subst}
+-- The witness holds, by computation; so there are rows that stand after a study, after an edit and after a rewriting, and the balance and the chain are of them; and a row that does not stand. Assumes nothing.
+use mathlib.Core.Path.{_≡_, refl, ap, subst, _∙_}
 use mathlib.Core.Bool.{true≢false}
 use Prim.Native.Nat.{ℕ, zero, suc, _+_, _<_}
 use native.Mathlib.Omega.{arith}
@@ -23,7 +23,7 @@ use Rattle.alter.specs.Altering.{swapped, firstChanged, placeGood}
 use Rattle.edit.specs.Edit.{inflowFits, overFrom, editRefusal, editedOf, editAnswer, editRows}
 use Rattle.edit.specs.Standing.{Standing, studied, edited, rewritten, Studied}
 use Rattle.edit.proofs.EditIsStudy.{chain, standing-balance}
-use Rattle.worked.specs.Witness.{parkingBefore, parking, siteOf, lent, small, large, smallFigures, enlarged, Witness}
+use Rattle.worked.specs.Witness.{parkingBefore, parking, siteOf, lent, small, large, earlier, smallFigures, enlarged, Witness}
 
 pub witness : Witness
 unfolding scan sumTo flatGood coverTable coverNumber classOf totalArea weighted nearest composite patchWithin patchesGood depth segmentTime concentration timeToPeak segmentWithin placeWithin segmentsGood shape time ratio lineAt onLine weight totalWeight runoffAt depthReleased volumeOf part concentrationGood peakGood weightsGood sumAt lower between dischargeAt stageAt arrived settled countGood rowWithin orderGood states passed overRow stateBefore maxTo peakRow keptTo figuresOf standsWithin firstAfter patchesPass segmentsPass lengthsGood stepGood entriesGood lastGood recordsGood rowsFrom overCheck studyRefusal studyAnswer studyRows swapped firstChanged placeGood inflowFits overFrom editRefusal editedOf editAnswer editRows
@@ -37,6 +37,9 @@ witness =
       no-area-leaves = refl;
       too-large = refl;
       too-large-leaves = refl;
+      again-leaves = refl;
+      earlier-answers = refl;
+      earlier-leaves = refl;
     }
 
 -- rows that stand: after the study, and after the edit
@@ -68,6 +71,10 @@ stands-rewritten = rewritten (siteOf 2) large stands-edited (parkingBefore 9 2) 
 pub chained : Studied (withSubareas (siteOf 2) (parkingBefore 9 2)) large
 chained = chain stands-rewritten
 
--- the balance of them: 7101 in, 5331 stored and 1770 released
+-- the balance of them: 5132 in, 3872 stored and 1260 released
 pub balanced : sumTo (at (large .inflow)) 1 ≡ at (large .storage) 0 + sumTo (releaseAt 30 0 (large .outflow)) 1
 balanced = standing-balance stands-rewritten 0 (omega arith)
+
+-- a row of the rule before Q-3 does not stand: a study leaves 2566 where it has 3550
+pub earlier-stands-not : Standing (siteOf 1) earlier → ⊥
+earlier-stands-not stood = omega (arith, ap (λ (l : Rows). at (l .inflow) 0) (chain stood .rows ∙ witness .again-leaves))

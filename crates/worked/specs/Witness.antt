@@ -1,4 +1,4 @@
--- A witness that the definitions are of something: one small study that is done, one edit of its rows that is done, and two that are refused.
+-- A witness that the definitions are of something: one small study that is done, one edit of its rows that is done, and two that are refused; and one edit of a row that no study leaves.
 use mathlib.Core.Path.{_≡_}
 use mathlib.Core.List.{List, [], _∷_, _++_}
 use Prim.Native.Nat.{ℕ, _-_, _*_}
@@ -16,7 +16,7 @@ use Rattle.edit.specs.declared.EditAnswer.the-variants.{Refused, Done}
 use Rattle.edit.specs.Edit.{editAnswer, editRows}
 use Rattle.worked.specs.Lines.{twoRows}
 
--- a subarea of an area: one patch of cover code 4 on soil group A, and one segment of kind 3, 360 ft at 1 ft/s (Tc 360, Tp 216); and what stands in the spare numbers and behind them
+-- a subarea of an area: one patch of cover code 4 on soil group A, and one segment of kind 3, 360 ft at 1 ft/s (Tc 360, Tp 246 at D 60); and what stands in the spare numbers and behind them
 abbrev pub parkingBefore : ℕ → ℕ → List ℕ
 parkingBefore unread area =
     (1 ∷ 4 ∷ 1 ∷ area ∷ replicate (patchWidth * mostPatches - 3) unread) ++ (1 ∷ 3 ∷ 360 ∷ 100 ∷ replicate (segmentWidth * mostSegments - 3) unread)
@@ -43,24 +43,40 @@ abbrev pub lent : Rows
 lent = oneRow 0 0 0
 
 abbrev pub small : Rows
-small = oneRow 3550 29 2680
+small = oneRow 2566 21 1936
 
 abbrev pub large : Rows
-large = oneRow 7101 59 5331
+large = oneRow 5132 42 3872
 
 -- their figures, and what the edit from the one to the other tells
 abbrev pub smallFigures : Figures
 smallFigures =
-    record { inflow = 3550; released = 870; storage = 2680; peak = 29; row = 1; stage = 295; surfaces = 1; districts = 0; lots = 0; rural = 0 }
+    record { inflow = 2566; released = 630; storage = 1936; peak = 21; row = 1; stage = 213; surfaces = 1; districts = 0; lots = 0; rural = 0 }
 
 abbrev pub largeFigures : Figures
 largeFigures =
-    record { inflow = 7101; released = 1770; storage = 5331; peak = 59; row = 1; stage = 591; surfaces = 2; districts = 0; lots = 0; rural = 0 }
+    record { inflow = 5132; released = 1260; storage = 3872; peak = 42; row = 1; stage = 427; surfaces = 2; districts = 0; lots = 0; rural = 0 }
 
 abbrev pub enlarged : Edited
-enlarged = record { figures = largeFigures; changed = 1; peak = pos 30; released = pos 900 }
+enlarged = record { figures = largeFigures; changed = 1; peak = pos 21; released = pos 630 }
 
--- a study of area 1 is done; an edit of its rows to area 2 is done; to area 0 it is refused with 6, to area 4 with 14, and the rows stay
+-- the row of area 1 by the rule before Q-3 (Tp 216), and what an edit of it to area 2 leaves and tells
+abbrev pub earlier : Rows
+earlier = oneRow 3550 29 2680
+
+abbrev pub mixed : Rows
+mixed = oneRow 6116 50 4616
+
+abbrev pub mixedTold : Edited
+mixedTold =
+    record {
+      figures = record { inflow = 6116; released = 1500; storage = 4616; peak = 50; row = 1; stage = 509; surfaces = 2; districts = 0; lots = 0; rural = 0 };
+      changed = 1;
+      peak = pos 21;
+      released = pos 630;
+    }
+
+-- a study of area 1 is done; an edit of its rows to area 2 is done; to area 0 it is refused with 6, to area 5 with 14, and the rows stay
 pub record Witness : Type 0 where
   pub study-answers : studyAnswer (siteOf 1) lent ≡ Study.Done smallFigures
   pub study-leaves : studyRows (siteOf 1) lent ≡ small
@@ -68,5 +84,9 @@ pub record Witness : Type 0 where
   pub edit-leaves : editRows (siteOf 1) small 1 (parking 2) ≡ large
   pub no-area : editAnswer (siteOf 1) small 1 (parking 0) ≡ Refused (refuse 6 1)
   pub no-area-leaves : editRows (siteOf 1) small 1 (parking 0) ≡ small
-  pub too-large : editAnswer (siteOf 1) small 1 (parking 4) ≡ Refused (refuse 14 1)
-  pub too-large-leaves : editRows (siteOf 1) small 1 (parking 4) ≡ small
+  pub too-large : editAnswer (siteOf 1) small 1 (parking 5) ≡ Refused (refuse 14 1)
+  pub too-large-leaves : editRows (siteOf 1) small 1 (parking 5) ≡ small
+  -- the row from before is edited like any other, though a study that is lent it leaves another
+  pub again-leaves : studyRows (siteOf 1) earlier ≡ small
+  pub earlier-answers : editAnswer (siteOf 1) earlier 1 (parking 2) ≡ Done mixedTold
+  pub earlier-leaves : editRows (siteOf 1) earlier 1 (parking 2) ≡ mixed

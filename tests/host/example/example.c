@@ -10,8 +10,8 @@
 
 #include "bridletenon.h"
 
-#if BT_INTERFACE != 2
-#error "this host was written for interface 2"
+#if BT_INTERFACE != 3
+#error "this host was written for interface 3"
 #endif
 
 enum {
