@@ -34,18 +34,18 @@ static void typical_site(struct site *s, struct prng *r)
     s->subareas.len = 4 * BT_WIDTH;
     for (size_t i = 0; i < 4; i++) {
         random_patches(record_at(s, i), r, 3, 1000);
-        set_concentration(record_at(s, i), 900); /* Tp 540 */
+        set_concentration(record_at(s, i), 750); /* Tp 540 */
     }
     set_pond(s, 8, 800000000, 90, 40);
 }
 
-/* Short grass, then unpaved ground, then a ditch: Tc of 904 to 954, so 15 weights again. */
+/* Short grass, then unpaved ground, then a ditch: Tc of 753 to 803, so 15 weights again. */
 static void set_path(u64 *record, u64 i)
 {
     const bt_segment path[] = {
         { BT_SEGMENT_SHEET, 100 - 5 * i, .by.sheet = { .n = 150, .rain = 3600, .slope = 300 } },
         { BT_SEGMENT_UNPAVED, 300 + 60 * i, .by.shallow = { .slope = 200 } },
-        { BT_SEGMENT_CHANNEL, 620 + 20 * i, .by.channel = { .n = 50, .radius = 96, .slope = 50 } },
+        { BT_SEGMENT_CHANNEL, 310 + 20 * i, .by.channel = { .n = 50, .radius = 96, .slope = 50 } },
     };
     memcpy(segment_at(record, 0), path, sizeof path);
     record[BT_SEGMENT_COUNT] = sizeof path / sizeof *path;

@@ -336,7 +336,7 @@ static void steps(struct site *s, struct prng *r)
     for (int slow = 0; slow < 2; slow++) {
         for (size_t i = 0; i < COUNT(values); i++)
             take_with("step at its limits", s, &s->step, values[i]);
-        set_all_concentrations(s, 6000); /* Tp 3,600 */
+        set_all_concentrations(s, 3000); /* Tp 3,600 at D 3,600 */
     }
 }
 
@@ -562,14 +562,15 @@ static void concentrations(struct site *s, struct prng *r)
 
 static void peaks(struct site *s, struct prng *r)
 {
-    static const u64 steps[] = { 60, 62, 120, 208, 210, 212, 214, 216, 218, 220, 300, 1800, 3598, 3600 };
+    static const u64 steps[] = { 60,  62,  120, 208, 210, 212, 214, 216,  218,  300,
+                                 428, 430, 432, 434, 436, 438, 440, 1800, 3598, 3600 };
     plain_site(s, r, 5, 7);
     for (size_t i = 0; i < COUNT(steps); i++) {
-        u64 step = steps[i], most = 512 * step / 5, others = concentration_of(3 * step < 220 ? 220 : 3 * step);
+        u64 step = steps[i], most = 512 * step / 5, others = concentration_of(step, 3 * step);
         for (u64 peak = step - 2; peak <= step + 2; peak++)
-            try_concentration("D beside Tp", s, step, concentration_of(peak), others);
-        for (u64 peak = most - 1; peak <= most + 2 && peak <= 21600; peak++)
-            try_concentration("5 Tp beside 512 D", s, step, concentration_of(peak), others);
+            try_concentration("D beside Tp", s, step, concentration_of(step, peak), others);
+        for (u64 peak = most - 1; peak <= most + 2 && peak <= reference_peak(step, 36000); peak++)
+            try_concentration("5 Tp beside 512 D", s, step, concentration_of(step, peak), others);
     }
 }
 
@@ -579,9 +580,9 @@ static void weights_at_random(struct site *s, struct prng *r)
     patch_at(record_at(s, 0), 0)[2] = 200000;
     for (int i = 0; i < 400; i++) {
         s->step = 2 * between(r, 30, chance(r, 50) ? 150 : 1800);
-        u64 least = s->step < 216 ? 216 : s->step, most = 512 * s->step / 5;
-        u64 peak = between(r, least, most < 21600 ? most : 21600);
-        set_concentration(record_at(s, 0), concentration_of(peak));
+        u64 least = reference_peak(s->step, 360), most = reference_peak(s->step, 36000), fit = 512 * s->step / 5;
+        u64 peak = between(r, least < s->step ? s->step : least, most < fit ? most : fit);
+        set_concentration(record_at(s, 0), concentration_of(s->step, peak));
         set_rows(s, 5 * peak / s->step + 9);
         pour(s, BT_MOST_RISE);
         take_site("every weight in the rows", s);

@@ -195,19 +195,19 @@ static void fresh_times_at(struct edit *e, u64 step)
     u64 most = 512 * step / 5;
     e->site.step = step;
     for (size_t i = 0; i < subarea_count(&e->site); i++)
-        set_concentration(record_at(&e->site, i), concentration_of(3 * step < 220 ? 220 : 3 * step));
+        set_concentration(record_at(&e->site, i), concentration_of(step, 3 * step));
     stand(e);
     for (size_t i = 0; i < COUNT(seconds); i++)
         try_time("Tc of the new record at its limits", e, seconds[i]);
     for (u64 peak = step - 2; peak <= step + 2; peak++)
-        try_time("D beside the new record's Tp", e, concentration_of(peak));
-    for (u64 peak = most - 1; peak <= most + 2 && peak <= 21600; peak++)
-        try_time("the new record's 5 Tp beside 512 D", e, concentration_of(peak));
+        try_time("D beside the new record's Tp", e, concentration_of(step, peak));
+    for (u64 peak = most - 1; peak <= most + 2 && peak <= reference_peak(step, 36000); peak++)
+        try_time("the new record's 5 Tp beside 512 D", e, concentration_of(step, peak));
 }
 
 static void fresh_times(struct edit *e, struct prng *r)
 {
-    static const u64 steps[] = { 60, 62, 120, 210, 212, 216, 218, 300, 1800, 3598, 3600 };
+    static const u64 steps[] = { 60, 62, 120, 210, 212, 300, 430, 432, 434, 436, 1800, 3598, 3600 };
     for (size_t i = 0; i < COUNT(steps); i++) {
         start_edit(e, r, 5, (int)i % 3);
         fresh_times_at(e, steps[i]);

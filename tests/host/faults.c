@@ -68,7 +68,7 @@ static void fault_concentration(struct site *s, int where)
 
 static void fault_step_above_peak(struct site *s, int where)
 {
-    s->step = 300;
+    s->step = 434;
     set_concentration(record_at(s, place(where, 5)), 360);
 }
 

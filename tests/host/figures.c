@@ -169,15 +169,41 @@ static u64 refusal_of(u64 step, u64 concentration, u64 discharge, u64 first)
                            answer);
 }
 
+/* ---- Half the step in Tp: docs/DECISIONS.md, request Q-3 */
+
+static void peaks(void)
+{
+    figure("Tp at Tc 360, D 432", reference_peak(432, 360), 432);
+    figure("Tp at Tc 360, D 434", reference_peak(434, 360), 433);
+    figure("Tp at Tc 10,191, D 60", reference_peak(60, 10191), 6144);
+    figure("Tp at Tc 10,192, D 60", reference_peak(60, 10192), 6145);
+    figure("example 16-1 of NEH 630: hundredths of an hour at Tc 2.3, D 0.3", reference_peak(1080, 8280) / 36, 153);
+}
+
+/* On both sides of 10 and 11: the D or Tc that just passes, and the next. From D 212 on 9 comes before 11. */
+static void peak_limits(void)
+{
+    static const struct {
+        u64 step, concentration, refusal;
+    } cases[] = {
+        { 432, 360, 0 },   { 434, 360, 10 },
+        { 434, 362, 0 },   { 434, 361, 10 },
+        { 3600, 3000, 0 }, { 3600, 2999, 10 },
+        { 60, 10191, 0 },  { 60, 10192, 11 },
+        { 120, 20381, 0 }, { 120, 20382, 11 },
+        { 210, 35666, 0 }, { 210, 35667, 11 },
+        { 212, 36000, 0 }, { 212, 36001, 9 },
+    };
+    for (size_t i = 0; i < sizeof cases / sizeof *cases; i++) {
+        u64 step = cases[i].step, concentration = cases[i].concentration;
+        char name[64];
+        snprintf(name, sizeof name, "the refusal at D %" PRIu64 ", Tc %" PRIu64, step, concentration);
+        figure(name, refusal_of(step, concentration, 0, 1), cases[i].refusal);
+    }
+}
+
 static void limits(void)
 {
-    figure("Tp of Tc 360", reference_peak(360), 216);
-    figure("D 216 at Tp 216", refusal_of(216, 360, 0, 1), 0);
-    figure("D 218 at Tp 216", refusal_of(218, 360, 0, 1), 10);
-    figure("Tp of Tc 10,240", reference_peak(10240), 6144);
-    figure("D 60 at Tp 6,144", refusal_of(60, 10240, 0, 1), 0);
-    figure("Tp of Tc 10,242", reference_peak(10242), 6145);
-    figure("D 60 at Tp 6,145", refusal_of(60, 10242, 0, 1), 11);
     figure("discharge 300", refusal_of(60, 360, 300, 1), 0);
     figure("discharge 301", refusal_of(60, 360, 301, 1), 13);
     figure("last row number 9007199254740991", refusal_of(60, 360, 0, 9007199254740991), 0);
@@ -257,13 +283,13 @@ static void found_rows(void)
 {
     struct small_edit full = { .rows = 1, .old_cover = 19, .new_cover = 4, .inflow = { 217800000000 } };
     figure("16 is of the row as found", edit_small(&full), 0);
-    figure("the new row passes its bound", full.answer[BT_INFLOW], 217800000645);
+    figure("the new row passes its bound", full.answer[BT_INFLOW], 217800000466);
     full.inflow[0] = 217800000001;
     figure("a row above the bound", edit_small(&full), 16);
     struct small_edit last = { .rows = 2, .old_cover = 19, .new_cover = 4, .outflow = { 0, 10000001 } };
     figure("17 is of every row, also of one about to be written", edit_small(&last), 17);
     figure("its place", last.answer[BT_PLACE], 2);
-    struct small_edit both = { .rows = 2, .old_cover = 4, .new_cover = 4, .inflow = { 645, 0 },
+    struct small_edit both = { .rows = 2, .old_cover = 4, .new_cover = 4, .inflow = { 466, 0 },
                                .outflow = { 10000001 } };
     figure("16 of all rows before 17 of any", edit_small(&both), 16);
     figure("its place", both.answer[BT_PLACE], 2);
@@ -309,6 +335,8 @@ int figures_wrong(void)
     greatest_path();
     pond_rows_of_three();
     pond_ends();
+    peaks();
+    peak_limits();
     limits();
     rises();
     nothing_changed();

@@ -259,6 +259,11 @@ static u64 concentration_of(const u64 *record)
     return sum < 360 ? 360 : sum;
 }
 
+static u64 peak_of(u64 step, u64 time)
+{
+    return 3 * time / 5 + step / 2;
+}
+
 /* ---- Checks 1 to 13, and 19 after 3 */
 
 static struct refusal check_lengths(u64 inflow_len, u64 outflow_len, u64 storage_len)
@@ -308,10 +313,10 @@ static struct refusal check_times(u64 step, const u64 *times, size_t count)
         if (times[i] > 36000)
             return refused(9, i + 1);
     for (size_t i = 0; i < count; i++)
-        if (step > 3 * times[i] / 5)
+        if (step > peak_of(step, times[i]))
             return refused(10, i + 1);
     for (size_t i = 0; i < count; i++)
-        if (5 * (3 * times[i] / 5) > MOST_WEIGHTS * step)
+        if (5 * peak_of(step, times[i]) > MOST_WEIGHTS * step)
             return refused(11, i + 1);
     return PASSED;
 }
@@ -422,7 +427,7 @@ static u64 dot(const uint32_t *weights, const uint32_t *depths, size_t k, size_t
 static void add_parts(const struct job *j, const u64 *record, u64 time, u64 *rows)
 {
     uint32_t weights[MOST_WEIGHTS], depths[BT_MOST_ROWS];
-    u64 area = area_of(record), peak = 3 * time / 5, before = 0;
+    u64 area = area_of(record), peak = peak_of(j->step, time), before = 0;
     size_t count = 5 * peak / j->step;
     u64 total = fill_weights(peak, j->step, count, weights);
     fill_depths(j, curve_of(record, area), depths);

@@ -177,9 +177,10 @@ u64 reference_concentration(const u64 *record)
     return sum < 360 ? 360 : sum;
 }
 
-u64 reference_peak(u64 concentration)
+u64 reference_peak(u64 step, u64 concentration)
 {
-    return 3 * concentration / 5;
+    u64 lag = 3 * concentration / 5;
+    return lag + step / 2;
 }
 
 /* ---- Inflow rows */
@@ -264,7 +265,7 @@ void add_record(const struct lent *lent, const u64 *record, u64 *rows)
 {
     static struct subarea s;
     s.area = area_of(record);
-    work_weights(&s, reference_peak(reference_concentration(record)), lent->step);
+    work_weights(&s, reference_peak(lent->step, reference_concentration(record)), lent->step);
     work_runoffs(&s, reference_curve(record), lent);
     add_parts(&s, rows, lent->inflow_len);
 }
@@ -425,12 +426,12 @@ static bool bad_concentration(const struct lent *s, const u64 *record)
 
 static bool step_above_peak(const struct lent *s, const u64 *record)
 {
-    return s->step > reference_peak(reference_concentration(record));
+    return s->step > reference_peak(s->step, reference_concentration(record));
 }
 
 static bool too_many_weights(const struct lent *s, const u64 *record)
 {
-    return 5 * reference_peak(reference_concentration(record)) > 512 * s->step;
+    return 5 * reference_peak(s->step, reference_concentration(record)) > 512 * s->step;
 }
 
 static struct refusal check_patches(const struct lent *s)

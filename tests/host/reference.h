@@ -26,7 +26,7 @@ u64 reference_curve(const u64 *record);                     /* C of a subarea's 
 u64 reference_runoff(u64 curve, u64 rain);                  /* millionths of an inch */
 u64 reference_segment(const u64 *segment);                  /* seconds; five numbers, spare ones not read */
 u64 reference_concentration(const u64 *record);             /* Tc */
-u64 reference_peak(u64 concentration);                      /* Tp */
+u64 reference_peak(u64 step, u64 concentration);            /* Tp */
 u64 reference_weight(u64 peak, u64 step, u64 j);            /* weight j */
 u64 reference_volume(u64 area, u64 depth);                  /* thousandths of a cubic foot */
 

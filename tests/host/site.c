@@ -125,9 +125,9 @@ void set_concentration(u64 *record, u64 seconds)
     add_time(record, seconds);
 }
 
-u64 concentration_of(u64 peak)
+u64 concentration_of(u64 step, u64 peak)
 {
-    return (5 * peak + 2) / 3;
+    return (5 * (peak - step / 2) + 2) / 3;
 }
 
 /* Storage grows faster than stage; discharge is 'percent' of the most that refusal 13 allows. */
@@ -262,12 +262,12 @@ static void random_path_of(u64 *record, struct prng *r, u64 seconds)
 /* Tc such that D <= Tp, and 5 Tp <= 512 D. */
 static u64 least_concentration(u64 step)
 {
-    return step <= 216 ? 0 : (5 * step + 2) / 3 + 10;
+    return step <= 432 ? 0 : concentration_of(step, step) + 10;
 }
 
 static u64 most_concentration(u64 step)
 {
-    u64 most = 170 * step;
+    u64 most = 169 * step;
     return most < 36000 ? most : 36000;
 }
 
@@ -421,7 +421,7 @@ void large_site(struct site *s, struct prng *r)
     random_rain(s, r, chance(r, 50) ? BT_MOST_ROWS : between(r, 200, BT_MOST_ROWS), between(r, 2000, 30000));
     random_subareas(s, r, BT_MOST_SUBAREAS, 200000);
     for (size_t i = 0; i < BT_MOST_SUBAREAS; i++)
-        random_path_of(record_at(s, i), r, between(r, 10240, 10241)); /* Tp 6,144 */
+        random_path_of(record_at(s, i), r, between(r, 10190, 10191)); /* Tp 6,144 */
     random_pond(s, r, BT_MOST_POND_ROWS, all_water(s) * between(r, 20, 130) / 100);
 }
 
@@ -532,7 +532,8 @@ static void spoil_discharge(struct site *s, struct prng *r)
 
 void spoil_time(const struct site *s, u64 *record, struct prng *r)
 {
-    const u64 near[] = { 36000, (5 * s->step + 2) / 3 % 36000, 512 * s->step / 3 % 36000, below(r, 36000) };
+    const u64 near[] = { 36000, concentration_of(s->step, s->step) % 36000,
+                         concentration_of(s->step, 512 * s->step / 5) % 36000, below(r, 36000) };
     set_concentration(record, near[below(r, 4)] + below(r, 4));
 }
 

@@ -59,7 +59,7 @@ void set_rows(struct site *s, size_t m);             /* the length of all three 
 void set_segment(u64 *at, const u64 *numbers);       /* all five of its numbers */
 void add_time(u64 *record, u64 seconds);             /* one or two segments of a given velocity, after those it has */
 void set_concentration(u64 *record, u64 seconds);    /* the same, and no others */
-u64 concentration_of(u64 peak);                      /* the least Tc whose Tp is at least this */
+u64 concentration_of(u64 step, u64 peak);            /* the least Tc whose Tp is at least this, which is above h */
 void set_pond(struct site *s, size_t rows, u64 capacity, u64 half, u64 percent);
 u64 total_area(const struct site *s);
 

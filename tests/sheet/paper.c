@@ -83,7 +83,7 @@ static void subareas(struct sink *to, const struct site *s)
     put(to, "\nSubarea    Area, ac  Curve number   Tc, s   Tp, s  Weights\n");
     for (size_t i = 0; i < subarea_count(s); i++) {
         const u64 *record = s->subareas.at + BT_WIDTH * i;
-        u64 time = reference_concentration(record), peak = reference_peak(time);
+        u64 time = reference_concentration(record), peak = reference_peak(s->step, time);
         put(to, "%7zu ", i + 1);
         column(to, 11, record_area(record), 2);
         put(to, " %13" PRIu64 " %7" PRIu64 " %7" PRIu64 " %8" PRIu64 "\n", reference_curve(record), time, peak,

@@ -219,8 +219,8 @@ static void together(struct site *s)
         total(s, past);
         timed(s, 300, 36000 + past);
         timed(s, 3600 + 2 * past, 36000);
-        timed(s, 300, concentration_of(300) - past);
-        timed(s, 120, concentration_of(512 * 120 / 5 + 1) - 1 + past);
+        timed(s, 600, concentration_of(600, 600) - past);
+        timed(s, 120, concentration_of(120, 512 * 120 / 5 + 1) - 1 + past);
         stored(s, past);
         full(s, past);
         risen(s, past);
