@@ -202,6 +202,25 @@ static void peak_limits(void)
     }
 }
 
+/* The row that was left of 1 hundredth of an acre before h was in Tp, 216 s, edited to 2; and a study of 2. */
+static void row_from_before(void)
+{
+    static const u64 rain[] = { 0, 3000 };
+    u64 old[BT_WIDTH] = { 1, 4, 1, 1 }, fresh[BT_WIDTH] = { 1, 4, 1, 2 }, inflow = 3550, outflow = 29, storage = 2680;
+    u64 answer[BT_EDIT_ANSWER_LENGTH];
+    int64_t changes[BT_CHANGES_LENGTH];
+    set_concentration(old, 360);
+    set_concentration(fresh, 360);
+    figure("an edit of a row without h in its Tp",
+           reference_edit(60, 1, rain, 2, old, BT_WIDTH, POND, 6, &inflow, 1, &outflow, 1, &storage, 1, 1, fresh, answer,
+                          changes),
+           0);
+    figure("its total inflow", answer[BT_INFLOW], 6116);
+    figure("a study of the altered list",
+           reference_study(60, 1, rain, 2, fresh, BT_WIDTH, POND, 6, &inflow, 1, &outflow, 1, &storage, 1, answer), 0);
+    figure("its total inflow", answer[BT_INFLOW], 5132);
+}
+
 static void limits(void)
 {
     figure("discharge 300", refusal_of(60, 360, 300, 1), 0);
@@ -337,6 +356,7 @@ int figures_wrong(void)
     pond_ends();
     peaks();
     peak_limits();
+    row_from_before();
     limits();
     rises();
     nothing_changed();

@@ -85,9 +85,9 @@ module _ {g : List ℕ} (ok : SegmentsOk g) where
   concentration-ok = record { least = omega arith; most = omega (arith, sum-bound (segmentsIn g) (omega arith), ok .most) }
 
 -- a time to peak is at least 3 fifths of 360 and half the step
-pub peak-range : (D : ℕ) {tc : ℕ} → TimeOk tc → 216 + D / 2 ≤ timeToPeak D tc
+pub peak-least : (D : ℕ) {tc : ℕ} → TimeOk tc → 216 + D / 2 ≤ timeToPeak D tc
 unfolding timeToPeak
-peak-range D ok = omega arith
+peak-least D ok = omega arith
 
 -- and at most 3 fifths of the greatest Tc and half the step
 pub peak-most : (D : ℕ) {tc : ℕ} → TimeOk tc → timeToPeak D tc ≤ 3 * (mostSegments * mostSegmentTime) / 5 + D / 2
