@@ -29,9 +29,16 @@ extern "C" {
    leaves. bt_interface gives that of the engine that is linked: where the two differ, the host was built for another one
    and must not call it. A host that keeps rows keeps the number beside them: rows of a lower one may be of another rule,
    which nothing in them shows (docs/HOST.md, 'Rows kept from before a request'). */
-#define BT_INTERFACE 3
+#define BT_INTERFACE 4
 
 uint64_t bt_interface(void);
+
+/* Sheet rules: how far sheet flow may run. A study names one, and every subarea of it follows that one; its edits name
+   the same. A mark has none. */
+enum {
+    BT_RULE_TR55 = 1,   /* 300 ft: TR-55 of 1986 */
+    BT_RULE_WINTR55 = 2 /* 100 ft: WinTR-55, and NEH 630 chapter 15 */
+};
 
 /* A subarea is a record of BT_WIDTH numbers; a list of subareas is 1 to BT_MOST_SUBAREAS records, end to end. Patches
    and segments past the record's counts are not read, and may hold anything. */
@@ -87,7 +94,7 @@ typedef struct bt_patch {
 
 typedef struct bt_segment {
     uint64_t kind;   /* BT_SEGMENT_UNPAVED to BT_SEGMENT_CHANNEL */
-    uint64_t length; /* feet, 1 to 4,000, of a sheet segment 1 to 300 */
+    uint64_t length; /* feet, 1 to 4,000, of a sheet segment 1 to 300 or 100, as the sheet rule has it */
     union {          /* the member that the kind names */
         struct {
             uint64_t slope;    /* ten-thousandths, 1 to 10,000 */
@@ -188,7 +195,7 @@ enum {
 
 /* Refusal numbers, and after the semicolon what the place beside each of them is. Subareas, rows and pond rows count
    from 1, rain entries from 0. Each number is given for the first place that has the fault. They are asked in the order
-   1, 2, 3, 19, 4, 5 and on; docs/SCOPE.md has it for each call. */
+   1, 2, 20, 3, 19, 4, 5 and on; docs/SCOPE.md has it for each call. */
 enum {
     BT_REFUSED_ROWS = 1,          /* the row lists differ in length, or are not 1 to 2,000 rows long; 0 */
     BT_REFUSED_STEP = 2,          /* the step is odd, or not 60 to 3,600; 0 */
@@ -197,7 +204,7 @@ enum {
     BT_REFUSED_SUBAREAS = 5,      /* not 1 to 16 whole records; 0 */
     BT_REFUSED_PATCHES = 6,       /* a patch count, or a patch within it, out of limits; subarea */
     BT_REFUSED_SEGMENTS = 7,      /* a segment count, or a segment within it, out of limits, or a sheet segment that
-                                     does not stand first; subarea */
+                                     does not stand first or is longer than the sheet rule lets it be; subarea */
     BT_REFUSED_AREA = 8,          /* all areas together above 200,000; 0 */
     BT_REFUSED_TIME = 9,          /* the time of concentration is above 36,000; subarea */
     BT_REFUSED_LONG_STEP = 10,    /* the step is above the time to peak; subarea */
@@ -210,7 +217,8 @@ enum {
     BT_REFUSED_STANDING = 17,     /* edit, mark: outflow above the last discharge, storage below half the step times
                                      outflow, or the two together above what the pond's last row holds; row */
     BT_REFUSED_ASKED = 18,        /* mark: the row asked is not 1 to m; 0 */
-    BT_REFUSED_RISE = 19          /* rain rises by more than BT_MOST_RISE from one entry to the next; the later entry */
+    BT_REFUSED_RISE = 19,         /* rain rises by more than BT_MOST_RISE from one entry to the next; the later entry */
+    BT_REFUSED_RULE = 20          /* the sheet rule is neither BT_RULE_TR55 nor BT_RULE_WINTR55; 0 */
 };
 
 /* ---- Calls. Each gives the refusal number, 0 when done, and writes its answers whole either way. */
@@ -219,42 +227,44 @@ enum {
  * Works a study. A done study fills inflow (thousandths of a cubic foot), outflow (thousandths of a cubic foot a
  * second) and storage (thousandths of a cubic foot), a number for each row; a refused one leaves them as they were.
  *
- * step: seconds, even, 60 to 3600. first: the number of the first row. rain: cumulative, thousandths of an inch.
+ * step: seconds, even, 60 to 3600. first: the number of the first row. rule: BT_RULE_TR55 or BT_RULE_WINTR55, also
+ * where no subarea has a sheet segment. rain: cumulative, thousandths of an inch.
  * A length of subareas that is no multiple of BT_WIDTH is refusal 5 at 0; of pond, of BT_POND_WIDTH: 12 at 0.
  */
-uint64_t bt_study(uint64_t step, uint64_t first, const uint64_t *rain, size_t rain_len, const uint64_t *subareas,
-                  size_t subareas_len, const uint64_t *pond, size_t pond_len, uint64_t *inflow, size_t inflow_len,
-                  uint64_t *outflow, size_t outflow_len, uint64_t *storage, size_t storage_len,
-                  uint64_t answer[BT_ANSWER_LENGTH]);
+uint64_t bt_study(uint64_t step, uint64_t first, uint64_t rule, const uint64_t *rain, size_t rain_len,
+                  const uint64_t *subareas, size_t subareas_len, const uint64_t *pond, size_t pond_len,
+                  uint64_t *inflow, size_t inflow_len, uint64_t *outflow, size_t outflow_len, uint64_t *storage,
+                  size_t storage_len, uint64_t answer[BT_ANSWER_LENGTH]);
 
 /* The same study of a list of records: no record, or more than BT_MOST_SUBAREAS, is refusal 5 at 0. */
-uint64_t bt_study_records(uint64_t step, uint64_t first, const uint64_t *rain, size_t rain_len, const bt_subarea *list,
-                          size_t list_len, const uint64_t *pond, size_t pond_len, uint64_t *inflow, size_t inflow_len,
-                          uint64_t *outflow, size_t outflow_len, uint64_t *storage, size_t storage_len,
-                          uint64_t answer[BT_ANSWER_LENGTH]);
+uint64_t bt_study_records(uint64_t step, uint64_t first, uint64_t rule, const uint64_t *rain, size_t rain_len,
+                          const bt_subarea *list, size_t list_len, const uint64_t *pond, size_t pond_len,
+                          uint64_t *inflow, size_t inflow_len, uint64_t *outflow, size_t outflow_len, uint64_t *storage,
+                          size_t storage_len, uint64_t answer[BT_ANSWER_LENGTH]);
 
 /*
  * Alters one subarea of a study that stands in the row lists: the old record's parts are taken from the inflow rows,
  * the new one's added, and the pond routed again from the first changed row. Rows before it are not written; where no
  * row is changed, none is. A refused edit leaves the three lists as they were. On rows that a study or an edit left,
- * with the list they were worked from, it refuses as a new study of the altered list would, or leaves its very rows.
+ * with the list and by the rule they were worked from, it refuses as a new study of the altered list would, or leaves
+ * its very rows.
  *
  * As for bt_study, and: subareas, the list as it stands, which is only read: after a done edit the caller puts the new
  * record into it. place: which of them, from 1. fresh: the new record.
  */
-uint64_t bt_edit(uint64_t step, uint64_t first, const uint64_t *rain, size_t rain_len, const uint64_t *subareas,
-                 size_t subareas_len, const uint64_t *pond, size_t pond_len, uint64_t *inflow, size_t inflow_len,
-                 uint64_t *outflow, size_t outflow_len, uint64_t *storage, size_t storage_len, uint64_t place,
-                 const uint64_t fresh[BT_WIDTH], uint64_t answer[BT_EDIT_ANSWER_LENGTH],
+uint64_t bt_edit(uint64_t step, uint64_t first, uint64_t rule, const uint64_t *rain, size_t rain_len,
+                 const uint64_t *subareas, size_t subareas_len, const uint64_t *pond, size_t pond_len, uint64_t *inflow,
+                 size_t inflow_len, uint64_t *outflow, size_t outflow_len, uint64_t *storage, size_t storage_len,
+                 uint64_t place, const uint64_t fresh[BT_WIDTH], uint64_t answer[BT_EDIT_ANSWER_LENGTH],
                  int64_t changes[BT_CHANGES_LENGTH]);
 
 /* The same edit of a list of records. The new record is lent as its numbers still: of a bt_subarea, its address cast to
    const uint64_t *. */
-uint64_t bt_edit_records(uint64_t step, uint64_t first, const uint64_t *rain, size_t rain_len, const bt_subarea *list,
-                         size_t list_len, const uint64_t *pond, size_t pond_len, uint64_t *inflow, size_t inflow_len,
-                         uint64_t *outflow, size_t outflow_len, uint64_t *storage, size_t storage_len, uint64_t place,
-                         const uint64_t fresh[BT_WIDTH], uint64_t answer[BT_EDIT_ANSWER_LENGTH],
-                         int64_t changes[BT_CHANGES_LENGTH]);
+uint64_t bt_edit_records(uint64_t step, uint64_t first, uint64_t rule, const uint64_t *rain, size_t rain_len,
+                         const bt_subarea *list, size_t list_len, const uint64_t *pond, size_t pond_len,
+                         uint64_t *inflow, size_t inflow_len, uint64_t *outflow, size_t outflow_len, uint64_t *storage,
+                         size_t storage_len, uint64_t place, const uint64_t fresh[BT_WIDTH],
+                         uint64_t answer[BT_EDIT_ANSWER_LENGTH], int64_t changes[BT_CHANGES_LENGTH]);
 
 /*
  * The chart mark of one row, from 1, of the rows that stand in the lists. All rows are looked at for 17, whichever is

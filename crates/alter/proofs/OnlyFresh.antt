@@ -54,7 +54,7 @@ module _ (s : List ℕ) (k : ℕ) (r : List ℕ) (ok : PlaceOk s k r) where
   altered-lines g p = all-fresh (listTests g) refl p
 
   -- what the passing of the altered list leaves of the fresh record
-  pub fresh-ok : (g : Setup) → StepOk g → AllPass (listLines g (altered s k r)) → RecordOk g r × (areaOf r ≤ mostArea)
+  pub fresh-ok : (g : Setup) → StepOk (g .step) → AllPass (listLines g (altered s k r)) → RecordOk g r × (areaOf r ≤ mostArea)
   fresh-ok g step p =
       let all = altered s k r in
       let list = list-ok g all (altered-records s k r ok) step p in

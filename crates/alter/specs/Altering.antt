@@ -12,7 +12,7 @@ use Rattle.rows.specs.Routing.{outflows, storages, stateBefore}
 use Rattle.rows.specs.Figures.{at}
 use Rattle.refusals.specs.declared.Refusal.{Refusal}
 use Rattle.checks.specs.Site.{Site, Rows}
-use Rattle.subarea.specs.Records.{width, recordsIn, recordAt}
+use Rattle.subarea.specs.Records.{halfOf, width, recordsIn, recordAt}
 use Rattle.refusals.specs.Refusals.{unless}
 use Rattle.checks.specs.Order.{runLines, listLines, pondLines}
 use Rattle.inflow.specs.Inflow.{partOf}
@@ -69,11 +69,11 @@ storagesFrom h p os ss ws a = take a ss ++ storages h p (stateBefore os ss a) (d
 unfoldable pub placeGood : List ℕ → ℕ → Bool
 placeGood s k = within 1 k (recordsIn s)
 
--- document 01's order of an edit up to 13: 1 to 5 with 19 after 3, 15, 6 to 11 on the list as it stands, 6 to 11 on the altered list, 12, 13
+-- document 01's order of an edit up to 13: 1 to 5 with 20 after 2 and 19 after 3, 15, 6 to 11 on the list as it stands, 6 to 11 on the altered list, 12, 13 (one sheet rule, the setup's, for 7 on both lists)
 abbrev pub editCheckLines : Site → Rows → ℕ → List ℕ → List Refusal
 editCheckLines x l k r =
     runLines x l
     ++ (unless 15 (placeGood (x .subareas) k) ∷ [])
     ++ listLines (x .setup) (x .subareas)
     ++ listLines (x .setup) (altered (x .subareas) k r)
-    ++ pondLines (x .setup) (x .pond)
+    ++ pondLines (halfOf (x .setup)) (x .pond)

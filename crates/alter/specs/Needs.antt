@@ -47,7 +47,7 @@ pub record PlaceOk (s : List ℕ) (k : ℕ) (r : List ℕ) : Type 0 where
 
 -- a step within its limits, and a list that passes 6 to 11
 pub record PassedOk (g : Setup) (s : List ℕ) : Type 0 where
-  pub step : StepOk g
+  pub step : StepOk (g .step)
   pub none-refused : firstRefusal (listLines g s) .number ≡ 0
 
 -- a list and a fresh record whose areas can be summed

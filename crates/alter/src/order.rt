@@ -35,7 +35,7 @@ fn altered_checks(setup: Setup, subareas: &[u64], place: u64, fresh: &[u64]) -> 
     requires { ⌜ PlaceOk (now subareas) place (now fresh) × PassedOk setup (now subareas) ⌝ }
     ensures { λ r. ⌜ r ≡ firstRefusal (listLines setup (altered (now (subareas .entry)) place (now (fresh .entry)))) ⌝ }
 {
-    let limits = checks::record::limits(fresh, place);
+    let limits = checks::record::limits(setup.rule, fresh, place);
     if limits.number != 0 {
         return limits;
     }
@@ -43,7 +43,7 @@ fn altered_checks(setup: Setup, subareas: &[u64], place: u64, fresh: &[u64]) -> 
     checks::list::area_check(area).or(checks::record::timing(setup, fresh, place))
 }
 
-// Refusals 1 to 5 with 19 after 3, 15, 6 to 11 on both lists, 12 and 13.
+// Refusals 1 to 5 with 20 after 2 and 19 after 3, 15, 6 to 11 on both lists, 12 and 13.
 pub fn edit_checks(
     setup: Setup,
     rain: &[u64],
@@ -73,5 +73,5 @@ pub fn edit_checks(
     if lists.number != 0 {
         return lists;
     }
-    checks::pond_checks(setup, pond)
+    checks::pond_checks(setup.step / 2, pond)
 }

@@ -5,13 +5,15 @@ use mathlib.Core.List.{List}
 use Prim.Native.Nat.{ℕ, _+_, _-_, _≤_, _<_}
 use lib.ListN.{length, getD}
 use Rattle.laws.specs.Limits.{mostRows, leastStep, mostStep, lastNumber, mostRise, mostArea}
+use Rattle.travel.specs.TravelTime.{sheetLimit}
+use Rattle.travel.specs.Needs.{SheetsWithin}
 use Rattle.hydrograph.specs.Needs.{TimingOk, RainOk}
 use Rattle.pond.specs.Needs.{PondOk}
 use Rattle.refusals.specs.declared.Refusal.{Refusal}
 use Rattle.refusals.specs.Refusals.{none, charge}
 use Rattle.subarea.specs.declared.Setup.{Setup}
-use Rattle.subarea.specs.Records.{halfOf, width, recordsIn, recordAt, peakOf, patchesPass, segmentsPass}
-use Rattle.subarea.specs.Needs.{RecordsOk}
+use Rattle.subarea.specs.Records.{halfOf, width, recordsIn, recordAt, segments, peakOf, patchesPass}
+use Rattle.subarea.specs.Needs.{RecordsOk, RoutedOk}
 use Rattle.checks.specs.Site.{Site, Rows, asked}
 use Rattle.checks.specs.Order.{ListTest, each, total, allArea}
 
@@ -21,9 +23,14 @@ overRecord r k (each n good) = charge n (good r) k
 overRecord r k (total n good) = none
 
 -- a step within its limits
-pub record StepOk (g : Setup) : Type 0 where
-  pub least : leastStep ≤ g .step
-  pub most : g .step ≤ mostStep
+pub record StepOk (D : ℕ) : Type 0 where
+  pub least : leastStep ≤ D
+  pub most : D ≤ mostStep
+
+-- a sheet rule that there is
+pub record RuleOk (rule : ℕ) : Type 0 where
+  pub least : 1 ≤ rule
+  pub most : rule ≤ 2
 
 -- three lists of one length, from 1 to 2,000
 pub record LengthsOk (l : Rows) : Type 0 where
@@ -39,7 +46,8 @@ pub record RisesOk (rain : List ℕ) : Type 0 where
 -- what 1 to 5 leave
 pub record RunOk (x : Site) (l : Rows) : Type 0 where
   pub lengths : LengthsOk l
-  pub step : StepOk (x .setup)
+  pub step : StepOk (x .setup .step)
+  pub rule : RuleOk (x .setup .rule)
   pub raining : RainOk (x .rain)
   pub rises : RisesOk (x .rain)
   pub last : x .setup .first + asked l - 1 ≤ lastNumber
@@ -49,7 +57,7 @@ pub record RunOk (x : Site) (l : Rows) : Type 0 where
 pub record RecordOk (g : Setup) (r : List ℕ) : Type 0 where
   pub whole : length r ≡ width
   pub patched : patchesPass r ≡ true
-  pub routed : segmentsPass r ≡ true
+  pub routed : RoutedOk r
   pub timed : TimingOk (g .step) (peakOf g r)
 
 -- a list of them: what 5 to 11 leave
@@ -57,6 +65,10 @@ pub record ListOk (g : Setup) (s : List ℕ) : Type 0 where
   pub records : RecordsOk s
   pub each : (i : ℕ) → i < recordsIn s → RecordOk g (recordAt s i)
   pub area : allArea s ≤ mostArea
+
+-- what 7 leaves of a list's sheet flow: none runs farther than the sheet rule lets it
+pub record SheetsOk (g : Setup) (s : List ℕ) : Type 0 where
+  pub each : (i : ℕ) → i < recordsIn s → SheetsWithin (sheetLimit (g .rule)) (segments (recordAt s i))
 
 -- what 1 to 11 leave
 pub record BasinOk (x : Site) (l : Rows) : Type 0 where

@@ -17,6 +17,11 @@ pub record Site : Type 0 where
 abbrev pub withSubareas : Site → List ℕ → Site
 withSubareas x u = record { setup = x .setup; rain = x .rain; subareas = u; pond = x .pond }
 
+-- a site by another sheet rule
+abbrev pub withRule : Site → ℕ → Site
+withRule x rule =
+    record { setup = record { step = x .setup .step; first = x .setup .first; rule = rule }; rain = x .rain; subareas = x .subareas; pond = x .pond }
+
 -- the three row lists
 pub record Rows : Type 0 where
   pub inflow : List ℕ

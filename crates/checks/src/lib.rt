@@ -1,5 +1,5 @@
-// The refusals 1 to 13, and 19 after 3, in their order, one function a number, in groups that a study, an edit and a mark
-// compose. Rain is in thousandths of an inch.
+// The refusals 1 to 13, with 20 after 2 and 19 after 3, in their order, one function a number, in groups that a study, an edit
+// and a mark compose. Rain is in thousandths of an inch; half is half the step, in seconds.
 pub mod list;
 pub mod record;
 
@@ -12,14 +12,13 @@ ghost use lib.ListN.{length};
 ghost use lib.Dec.{leb};
 ghost use Rattle.laws.specs.Within.{within};
 ghost use Rattle.laws.specs.Limits.{mostRise};
+ghost use Rattle.travel.specs.TravelTime.{ruleGood};
 ghost use Rattle.pond.specs.PondRows.{rowsIn, countGood, firstBad, firstShort};
-ghost use Rattle.pond.specs.Needs.{TableOk, PondOk};
+ghost use Rattle.pond.specs.Needs.{HalfOk, TableOk, PondOk};
 ghost use Rattle.rows.specs.Figures.{firstForged};
 ghost use Rattle.refusals.specs.Refusals.{unless, firstOf, firstAt, firstRefusal};
-ghost use Rattle.subarea.specs.Records.{halfOf};
 ghost use Rattle.checks.specs.Site.{site, basin, found};
 ghost use Rattle.checks.specs.Order.{lengthsGood, stepGood, entriesGood, entryGood, firstEntry, firstLeap, lastGood, recordsGood, frameLines, rainLines, runLines, pondLines, inflowLines, checkLines};
-ghost use Rattle.checks.specs.Needs.{StepOk};
 
 // 1
 fn lengths_check(inflow: &[u64], outflow: &[u64], storage: &[u64]) -> Refusal
@@ -32,11 +31,18 @@ fn lengths_check(inflow: &[u64], outflow: &[u64], storage: &[u64]) -> Refusal
 }
 
 // 2
-fn step_check(setup: Setup) -> Refusal
-    ensures { λ r. ⌜ r ≡ unless 2 (stepGood setup) ⌝ }
+fn step_check(step: u64) -> Refusal
+    ensures { λ r. ⌜ r ≡ unless 2 (stepGood step) ⌝ }
 {
-    let within = laws::within(limits::LEAST_STEP, setup.step, limits::MOST_STEP);
-    Refusal::charge(2, laws::both(within, setup.step % 2 == 0), 0)
+    let within = laws::within(limits::LEAST_STEP, step, limits::MOST_STEP);
+    Refusal::charge(2, laws::both(within, step % 2 == 0), 0)
+}
+
+// 20
+fn rule_check(rule: u64) -> Refusal
+    ensures { λ r. ⌜ r ≡ unless 20 (ruleGood rule) ⌝ }
+{
+    Refusal::charge(20, travel::rule_good(rule), 0)
 }
 
 // n + 1 entries for m rows, 1 <= n <= m: tested by a difference, so that no sum wraps.
@@ -124,20 +130,20 @@ fn rise_check(rain: &[u64]) -> Refusal
 }
 
 // Is first + m - 1 a row number? Tested by a difference: the sum may pass 64 bits.
-fn last_good(setup: Setup, m: usize) -> bool
-    ensures { λ r. ⌜ r ≡ lastGood setup m ⌝ }
+fn last_good(first: u64, m: usize) -> bool
+    ensures { λ r. ⌜ r ≡ lastGood first m ⌝ }
 {
-    if limits::LAST_NUMBER + 1 < setup.first {
+    if limits::LAST_NUMBER + 1 < first {
         return false;
     }
-    m as u64 <= limits::LAST_NUMBER + 1 - setup.first
+    m as u64 <= limits::LAST_NUMBER + 1 - first
 }
 
 // 4
-pub fn last_check(setup: Setup, m: usize) -> Refusal
-    ensures { λ r. ⌜ r ≡ unless 4 (lastGood setup m) ⌝ }
+pub fn last_check(first: u64, m: usize) -> Refusal
+    ensures { λ r. ⌜ r ≡ unless 4 (lastGood first m) ⌝ }
 {
-    Refusal::charge(4, last_good(setup, m), 0)
+    Refusal::charge(4, last_good(first, m), 0)
 }
 
 // 5
@@ -150,10 +156,10 @@ fn records_check(subareas: &[u64]) -> Refusal
 }
 
 // Refusals 1 and 2.
-pub fn frame_checks(setup: Setup, inflow: &[u64], outflow: &[u64], storage: &[u64]) -> Refusal
-    ensures { λ r. ⌜ r ≡ firstRefusal (frameLines setup (found inflow outflow storage)) ⌝ }
+pub fn frame_checks(step: u64, inflow: &[u64], outflow: &[u64], storage: &[u64]) -> Refusal
+    ensures { λ r. ⌜ r ≡ firstRefusal (frameLines step (found inflow outflow storage)) ⌝ }
 {
-    lengths_check(inflow, outflow, storage).or(step_check(setup))
+    lengths_check(inflow, outflow, storage).or(step_check(step))
 }
 
 // Refusals 3 and 19.
@@ -166,7 +172,7 @@ fn rain_checks(rain: &[u64], m: usize) -> Refusal
     count.or(entry).or(rise)
 }
 
-// Refusals 1 to 5, and 19 after 3.
+// Refusals 1 to 5, with 20 after 2 and 19 after 3.
 pub fn run_checks(
     setup: Setup,
     rain: &[u64],
@@ -177,9 +183,10 @@ pub fn run_checks(
 ) -> Refusal
     ensures { λ r. ⌜ r ≡ firstRefusal (runLines (basin setup rain subareas) (found inflow outflow storage)) ⌝ }
 {
-    frame_checks(setup, inflow, outflow, storage)
+    frame_checks(setup.step, inflow, outflow, storage)
+        .or(rule_check(setup.rule))
         .or(rain_checks(rain, inflow.len()))
-        .or(last_check(setup, inflow.len()))
+        .or(last_check(setup.first, inflow.len()))
         .or(records_check(subareas))
 }
 
@@ -198,36 +205,36 @@ fn table_check(pond: &[u64]) -> Refusal
 }
 
 // 13
-fn held_check(setup: Setup, pond: &[u64]) -> Refusal
-    requires { ⌜ StepOk setup × TableOk (now pond) ⌝ }
-    ensures { λ r. ⌜ r ≡ firstOf 13 (firstShort (halfOf setup) (now (pond .entry))) (rowsIn (now (pond .entry))) ⌝ }
+fn held_check(half: u64, pond: &[u64]) -> Refusal
+    requires { ⌜ HalfOk half × TableOk (now pond) ⌝ }
+    ensures { λ r. ⌜ r ≡ firstOf 13 (firstShort half (now (pond .entry))) (rowsIn (now (pond .entry))) ⌝ }
 {
-    let short = pond::first_short(pond, setup.step / 2);
+    let short = pond::first_short(pond, half);
     Refusal::first_of(13, short, pond.len() / pond::ROW_WIDTH)
 }
 
 // Refusals 12 and 13.
-pub fn pond_checks(setup: Setup, pond: &[u64]) -> Refusal
-    requires { ⌜ StepOk setup ⌝ }
-    ensures { λ r. ⌜ r ≡ firstRefusal (pondLines setup (now (pond .entry))) ⌝ }
+pub fn pond_checks(half: u64, pond: &[u64]) -> Refusal
+    requires { ⌜ HalfOk half ⌝ }
+    ensures { λ r. ⌜ r ≡ firstRefusal (pondLines half (now (pond .entry))) ⌝ }
 {
     let table = count_check(pond).or(table_check(pond));
     if table.number != 0 {
         return table;
     }
-    held_check(setup, pond)
+    held_check(half, pond)
 }
 
 // 17. Any numbers may stand in the rows.
-pub fn forged_check(setup: Setup, pond: &[u64], outflow: &[u64], storage: &[u64]) -> Refusal
-    requires { ⌜ PondOk (halfOf setup) (now pond) × (length (now storage) ≡ length (now outflow)) ⌝ }
-    ensures { λ r. ⌜ r ≡ firstOf 17 (firstForged (halfOf setup) (now (pond .entry)) (now (outflow .entry)) (now (storage .entry))) (length (now (outflow .entry))) ⌝ }
+pub fn forged_check(half: u64, pond: &[u64], outflow: &[u64], storage: &[u64]) -> Refusal
+    requires { ⌜ PondOk half (now pond) × (length (now storage) ≡ length (now outflow)) ⌝ }
+    ensures { λ r. ⌜ r ≡ firstOf 17 (firstForged half (now (pond .entry)) (now (outflow .entry)) (now (storage .entry))) (length (now (outflow .entry))) ⌝ }
 {
-    let forged = rows::first_forged(pond, setup.step / 2, outflow, storage);
+    let forged = rows::first_forged(pond, half, outflow, storage);
     Refusal::first_of(17, forged, outflow.len())
 }
 
-// Refusals 1 to 11, and 19 after 3: what a study's inflow rows need.
+// Refusals 1 to 11, with 20 after 2 and 19 after 3: what a study's inflow rows need.
 pub fn inflow_checks(
     setup: Setup,
     rain: &[u64],
@@ -245,7 +252,7 @@ pub fn inflow_checks(
     list::list_checks(setup, subareas)
 }
 
-// Refusals 1 to 13, and 19 after 3.
+// Refusals 1 to 13, with 20 after 2 and 19 after 3.
 pub fn study_checks(
     setup: Setup,
     rain: &[u64],
@@ -261,5 +268,5 @@ pub fn study_checks(
     if v.number != 0 {
         return v;
     }
-    pond_checks(setup, pond)
+    pond_checks(setup.step / 2, pond)
 }

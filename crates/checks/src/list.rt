@@ -13,9 +13,9 @@ ghost use Rattle.subarea.specs.Needs.{RecordsOk, AllPatches, AllSegments};
 ghost use Rattle.checks.specs.Order.{allArea, overList, limitTests, timingTests, listLines};
 
 // Refusals 6 and 7. One pass: the first place of each number is kept as it goes.
-fn limit_checks(subareas: &[u64]) -> Refusal
+fn limit_checks(rule: u64, subareas: &[u64]) -> Refusal
     requires { ⌜ RecordsOk (now subareas) ⌝ }
-    ensures { λ r. ⌜ r ≡ firstRefusal (map (overList (now (subareas .entry))) limitTests) ⌝ }
+    ensures { λ r. ⌜ r ≡ firstRefusal (map (overList (now (subareas .entry))) (limitTests rule)) ⌝ }
 {
     let n = subareas.len() / subarea::WIDTH;
     let mut patches = Refusal::none();
@@ -26,7 +26,7 @@ fn limit_checks(subareas: &[u64]) -> Refusal
         let e = a + subarea::WIDTH;
         let place = i as u64 + 1;
         patches = patches.or(record::patches_check(&subareas[a..e], place));
-        segments = segments.or(record::segments_check(&subareas[a..e], place));
+        segments = segments.or(record::segments_check(rule, &subareas[a..e], place));
         i += 1;
     }
     patches.or(segments)
@@ -85,7 +85,7 @@ pub fn list_checks(setup: Setup, subareas: &[u64]) -> Refusal
     requires { ⌜ (setup .step ≤ mostStep) × RecordsOk (now subareas) ⌝ }
     ensures { λ r. ⌜ r ≡ firstRefusal (listLines setup (now (subareas .entry))) ⌝ }
 {
-    let limits = limit_checks(subareas);
+    let limits = limit_checks(setup.rule, subareas);
     if limits.number != 0 {
         return limits;
     }

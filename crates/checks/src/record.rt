@@ -2,7 +2,6 @@
 use refusals::Refusal;
 use subarea::Setup;
 ghost use mathlib.Core.Path.{_≡_};
-ghost use mathlib.Core.Bool.{true};
 ghost use mathlib.Core.List.{map};
 ghost use Prim.Native.Nat.{_≤_};
 ghost use lib.ListN.{length};
@@ -11,6 +10,7 @@ ghost use Rattle.travel.specs.Needs.{TimeOk};
 ghost use Rattle.hydrograph.specs.InflowRows.{concentrationGood, peakGood, weightsGood};
 ghost use Rattle.refusals.specs.Refusals.{charge, firstRefusal};
 ghost use Rattle.subarea.specs.Records.{width, patchesPass, segmentsPass};
+ghost use Rattle.subarea.specs.Needs.{RoutedOk};
 ghost use Rattle.checks.specs.Order.{limitTests, timingTests};
 ghost use Rattle.checks.specs.Needs.{overRecord};
 
@@ -21,11 +21,11 @@ pub(crate) fn patches_check(own: &[u64], place: u64) -> Refusal
     Refusal::charge(6, subarea::patches_pass(own), place)
 }
 
-pub(crate) fn segments_check(own: &[u64], place: u64) -> Refusal
+pub(crate) fn segments_check(rule: u64, own: &[u64], place: u64) -> Refusal
     requires { ⌜ length (now own) ≡ width ⌝ }
-    ensures { λ r. ⌜ r ≡ charge 7 (segmentsPass (now (own .entry))) place ⌝ }
+    ensures { λ r. ⌜ r ≡ charge 7 (segmentsPass rule (now (own .entry))) place ⌝ }
 {
-    Refusal::charge(7, subarea::segments_pass(own), place)
+    Refusal::charge(7, subarea::segments_pass(rule, own), place)
 }
 
 pub(crate) fn concentration_check(time: u64, place: u64) -> Refusal
@@ -49,16 +49,16 @@ pub(crate) fn weights_check(setup: Setup, time: u64, place: u64) -> Refusal
 }
 
 // Refusals 6 and 7 of one record.
-pub fn limits(own: &[u64], place: u64) -> Refusal
+pub fn limits(rule: u64, own: &[u64], place: u64) -> Refusal
     requires { ⌜ length (now own) ≡ width ⌝ }
-    ensures { λ r. ⌜ r ≡ firstRefusal (map (overRecord (now (own .entry)) place) limitTests) ⌝ }
+    ensures { λ r. ⌜ r ≡ firstRefusal (map (overRecord (now (own .entry)) place) (limitTests rule)) ⌝ }
 {
-    patches_check(own, place).or(segments_check(own, place))
+    patches_check(own, place).or(segments_check(rule, own, place))
 }
 
 // Refusals 9 to 11 of one record.
 pub fn timing(setup: Setup, own: &[u64], place: u64) -> Refusal
-    requires { ⌜ (setup .step ≤ mostStep) × ((length (now own) ≡ width) × (segmentsPass (now own) ≡ true)) ⌝ }
+    requires { ⌜ (setup .step ≤ mostStep) × ((length (now own) ≡ width) × RoutedOk (now own)) ⌝ }
     ensures { λ r. ⌜ r ≡ firstRefusal (map (overRecord (now (own .entry)) place) (timingTests setup)) ⌝ }
 {
     let time = subarea::time(own);

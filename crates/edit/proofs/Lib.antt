@@ -1,4 +1,5 @@
 pub mod EditIsStudy
+pub mod OtherRule
 pub mod Keeps
 pub mod Order
 pub mod Read

@@ -10,12 +10,13 @@ use lib.ListN.{length, drop}
 use Rattle.laws.specs.Pick.{pick}
 use Rattle.rows.specs.Routing.{overRow, stateBefore}
 use Rattle.checks.specs.Site.{Site, Rows}
+use Rattle.refusals.specs.declared.Refusal.{Refusal}
 use Rattle.refusals.specs.Refusals.{refuse, none, unless, AllPass, First}
 use Rattle.checks.specs.Order.{runLines, listLines, pondLines}
 use Rattle.subarea.specs.Records.{halfOf}
 use Rattle.refusals.proofs.Orders.{all-pass, both-pass, last-is, first-there}
-use Rattle.checks.specs.Needs.{RisesOk, RunOk}
-use Rattle.checks.proofs.Ready.{run-ok}
+use Rattle.checks.specs.Needs.{RuleOk, RisesOk, RunOk, SheetsOk}
+use Rattle.checks.proofs.Ready.{run-ok, sheets-ok}
 use Rattle.alter.specs.Altering.{altered, newInflowOf, firstChanged, placeGood, editCheckLines}
 use Rattle.edit.specs.declared.EditAnswer.{EditAnswer}
 use Rattle.edit.specs.declared.EditAnswer.the-variants.{Refused, Done}
@@ -56,11 +57,31 @@ module _ (x : Site) (l : Rows) (k : ℕ) (r : List ℕ) where
         let over = overFrom (halfOf (x .setup)) (x .pond) l ws in
         sym (last-is fore over done ∙ over-none (halfOf (x .setup)) (x .pond) l ws (both-pass fore (over ∷ []) edit-passes .1 .0))
 
+    -- 6 to 11 on the list as it stands, then on the altered list, and what follows them
+    abbrev stands : List Refusal
+    stands = listLines (x .setup) (x .subareas)
+
+    abbrev alters : List Refusal
+    alters = listLines (x .setup) (altered (x .subareas) k r)
+
+    abbrev after-lists : List Refusal
+    after-lists = pondLines (halfOf (x .setup)) (x .pond) ++ rowLines x l k r
+
+    parted : AllPass (runLines x l) × AllPass (unless 15 (placeGood (x .subareas) k) ∷ (stands ++ (alters ++ after-lists)))
+    parted = both-pass (runLines x l) (unless 15 (placeGood (x .subareas) k) ∷ (stands ++ (alters ++ after-lists))) edit-passes
+
     -- lists of one length, and row numbers in their limit
     pub accepted : RunOk x l
-    accepted =
-        let lists = listLines (x .setup) (x .subareas) ++ (listLines (x .setup) (altered (x .subareas) k r) ++ pondLines (x .setup) (x .pond)) in
-        run-ok x l (both-pass (runLines x l) (unless 15 (placeGood (x .subareas) k) ∷ (lists ++ rowLines x l k r)) edit-passes .0)
+    accepted = run-ok x l (parted .0)
+
+    -- its sheet rule is 1 or 2, and no sheet of the list, nor of the altered list, runs farther than that one lets it
+    pub edit-rule : RuleOk (x .setup .rule)
+    edit-rule = accepted .rule
+
+    pub edit-sheets : SheetsOk (x .setup) (x .subareas) × SheetsOk (x .setup) (altered (x .subareas) k r)
+    edit-sheets =
+        let lists = both-pass stands (alters ++ after-lists) (parted .1 .1) in
+        (sheets-ok (x .setup) (x .subareas) (lists .0), sheets-ok (x .setup) (altered (x .subareas) k r) (both-pass alters after-lists (lists .1) .0))
 
     -- every row's number is below 9007199254740992
     pub edit-numbers : (i : ℕ) → i < length (l .inflow) → x .setup .first + i < 9007199254740992

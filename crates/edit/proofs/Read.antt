@@ -67,7 +67,7 @@ front-decides : (x : Site) (l : Rows) (k : ℕ) (r : List ℕ) → (firstRefusal
 unfolding editRefusal
 front-decides x l k r n =
     let s = x .subareas in
-    stops (placeLines x l k) ((listLines (x .setup) s ++ (listLines (x .setup) (altered s k r) ++ pondLines (x .setup) (x .pond))) ++ rowLines x l k r) refl n
+    stops (placeLines x l k) ((listLines (x .setup) s ++ (listLines (x .setup) (altered s k r) ++ pondLines (halfOf (x .setup)) (x .pond))) ++ rowLines x l k r) refl n
 
 module _ (x : Site) (l : Rows) (k : ℕ) (u : List ℕ) (same : SameRead (x .subareas) u) where
   -- 1 to 5 and 15
@@ -106,7 +106,7 @@ module _ (x : Site) (l : Rows) (k : ℕ) (u : List ℕ) (same : SameRead (x .sub
       -- an order of an edit, by what of it reads the subareas
       abbrev ordered : List Refusal → List Refusal → List Refusal → Refusal → List ℕ → Refusal
       ordered place stood new unfit ws =
-          firstRefusal (place ++ ((stood ++ (new ++ pondLines (x .setup) (x .pond))) ++ (unfit ∷ forgedLine (x .setup) (x .pond) l ∷ overFrom (halfOf (x .setup)) (x .pond) l ws ∷ [])))
+          firstRefusal (place ++ ((stood ++ (new ++ pondLines (halfOf (x .setup)) (x .pond))) ++ (unfit ∷ forgedLine (halfOf (x .setup)) (x .pond) l ∷ overFrom (halfOf (x .setup)) (x .pond) l ws ∷ [])))
 
       refusal-same : editRefusal x l k r ≡ editRefusal (withSubareas x u) l k q
       unfolding editRefusal

@@ -139,10 +139,10 @@ module _ (x : Site) (l : Rows) (so : Studied x l) where
         ap (λ (z : Rows). unfitOf x z k) rows-are
         ∙ rw (fit-all x k r (length (l .inflow)) place (ready .basin .run .raining) (ready .basin .list), le-ltb (length vs) (length vs) (omega arith))
 
-    seventeen : forgedLine (x .setup) (x .pond) l ≡ none
+    seventeen : forgedLine (halfOf (x .setup)) (x .pond) l ≡ none
     seventeen =
         let few : length vs ≤ mostRows = omega (arith, rows-length (inflowAt (x .setup) (x .rain) (x .subareas)) 1 (length (l .inflow)), ready .basin .run .lengths .most) in
-        ap (λ (z : Rows). forgedLine (x .setup) (x .pond) z) rows-are ∙ rw (routed-pass (ready .pond) vs all-in few, column-length h p outflowOf empty vs, le-ltb (length vs) (length vs) (omega arith))
+        ap (λ (z : Rows). forgedLine (halfOf (x .setup)) (x .pond) z) rows-are ∙ rw (routed-pass (ready .pond) vs all-in few, column-length h p outflowOf empty vs, le-ltb (length vs) (length vs) (omega arith))
 
     fourteen : overFrom h p l ws ≡ overOf new l
     fourteen = ap (λ (z : Rows). overFrom h p z ws) rows-are ∙ over-from h p vs ws all-in ws-long ∙ ap (overCheck h p) ws-is
@@ -152,12 +152,12 @@ module _ (x : Site) (l : Rows) (so : Studied x l) where
     unfolding editRefusal studyRefusal
     refusal-same =
         let stands = listLines (x .setup) (x .subareas) in
-        let mid = listLines (x .setup) (altered (x .subareas) k r) ++ pondLines (x .setup) p in
-        let run = both-pass (runLines x l) (stands ++ pondLines (x .setup) p) (two .0) in
+        let mid = listLines (x .setup) (altered (x .subareas) k r) ++ pondLines (halfOf (x .setup)) p in
+        let run = both-pass (runLines x l) (stands ++ pondLines (halfOf (x .setup)) p) (two .0) in
         sym (past (runLines x l) _ _ (run .0))
         ∙ sym (past (unless 15 (placeGood (x .subareas) k) ∷ []) _ _ (listed-passes, tt))
-        ∙ sym (past stands _ _ (both-pass stands (pondLines (x .setup) p) (run .1) .0))
-        ∙ ap (λ (z : Refusal). firstRefusal (mid ++ (z ∷ forgedLine (x .setup) (x .pond) l ∷ overFrom h p l ws ∷ []))) sixteen
+        ∙ sym (past stands _ _ (both-pass stands (pondLines (halfOf (x .setup)) p) (run .1) .0))
+        ∙ ap (λ (z : Refusal). firstRefusal (mid ++ (z ∷ forgedLine (halfOf (x .setup)) (x .pond) l ∷ overFrom h p l ws ∷ []))) sixteen
         ∙ ap (λ (z : Refusal). firstRefusal (mid ++ (none ∷ z ∷ overFrom h p l ws ∷ []))) seventeen
         ∙ ap (λ (z : Refusal). firstRefusal (mid ++ (none ∷ none ∷ z ∷ []))) fourteen
         ∙ skipped mid (overOf new l)

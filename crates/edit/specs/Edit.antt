@@ -44,7 +44,7 @@ overFrom h p l ws =
 
 -- 16, 17 and 14
 abbrev pub rowLines : Site → Rows → ℕ → List ℕ → List Refusal
-rowLines x l k r = unfitOf x l k ∷ forgedLine (x .setup) (x .pond) l ∷ overFrom (halfOf (x .setup)) (x .pond) l (newInflowOf x l k r) ∷ []
+rowLines x l k r = unfitOf x l k ∷ forgedLine (halfOf (x .setup)) (x .pond) l ∷ overFrom (halfOf (x .setup)) (x .pond) l (newInflowOf x l k r) ∷ []
 
 -- document 01's order of an edit, line by line
 abbrev pub editLines : Site → Rows → ℕ → List ℕ → List Refusal

@@ -12,8 +12,7 @@ use Rattle.rows.specs.Figures.{at}
 use Rattle.rows.specs.declared.RowFigures.{RowFigures}
 use Rattle.refusals.specs.declared.Refusal.{Refusal}
 use Rattle.checks.specs.Site.{Site, Rows}
-use Rattle.subarea.specs.declared.Setup.{Setup}
-use Rattle.subarea.specs.Records.{areaOf}
+use Rattle.subarea.specs.Records.{halfOf, areaOf}
 use Rattle.refusals.specs.Refusals.{firstOf, firstRefusal, after}
 use Rattle.checks.specs.Order.{forgedLine}
 use Rattle.checks.specs.Needs.{RecordOk, SiteOk}
@@ -27,12 +26,12 @@ abbrev pub firstUnder : List ℕ → List ℕ → ℕ
 firstUnder fs vs = scan (λ i. inflowFits (at fs i) (at vs i)) (length vs) 0
 
 -- 16 and 17, with such a list
-abbrev pub partLines : Setup → List ℕ → List ℕ → Rows → List Refusal
-partLines g p fs l = firstOf 16 (firstUnder fs (l .inflow)) (length (l .inflow)) ∷ forgedLine g p l ∷ []
+abbrev pub partLines : ℕ → List ℕ → List ℕ → Rows → List Refusal
+partLines h p fs l = firstOf 16 (firstUnder fs (l .inflow)) (length (l .inflow)) ∷ forgedLine h p l ∷ []
 
 -- 16 and 17 of an edit
 abbrev pub foundLines : Site → Rows → ℕ → List Refusal
-foundLines x l k = unfitOf x l k ∷ forgedLine (x .setup) (x .pond) l ∷ []
+foundLines x l k = unfitOf x l k ∷ forgedLine (halfOf (x .setup)) (x .pond) l ∷ []
 
 -- what 14 leaves of the answer and the rows
 unfoldable pub settledFrom : ℕ → Classes → List ℕ → Rows → List ℕ → EditAnswer

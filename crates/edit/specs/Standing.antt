@@ -21,6 +21,7 @@ studyIn (Refused v) = Study.Refused v
 studyIn (Done e) = Study.Done (e .figures)
 
 -- rows l stand on the site x: a done study of x left them; or a done edit of rows standing on a site, at a listed place, left them and x is that site altered; or they stand on a site of whose subareas the same is read (a host may rewrite what stands behind a record's counts and in spare numbers)
+-- from the study through all edits there is one setup: an edit has the sheet rule of its study (Q-4), as it has its step and first row number; it cannot see it in the rows, so that it does is a premise of demand 3
 pub data Standing : Site → Rows → Type 0 where
   studied : (x : Site) (l : Rows) (f : Figures) → studyAnswer x l ≡ Study.Done f → Standing x (studyRows x l)
   edited : (x : Site) (l : Rows) → Standing x l → (k : ℕ) → 1 ≤ k → k ≤ recordsIn (x .subareas) → (r : List ℕ) → length r ≡ width

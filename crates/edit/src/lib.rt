@@ -141,14 +141,15 @@ fn refit(
 {
     let a = subarea::WIDTH * (place as usize - 1);
     let e = a + subarea::WIDTH;
+    let half = setup.step / 2;
     alter::fill_parts(setup, rain, &subareas[a..e], new);
-    let v = fit::rows_checks(setup, pond, new, inflow, outflow, storage);
+    let v = fit::rows_checks(half, pond, new, inflow, outflow, storage);
     if v.number != 0 {
         return EditAnswer::Refused(v);
     }
     alter::swap_parts(setup, rain, fresh, inflow, new);
     let classes = alter::altered_classes(subareas, place, fresh);
-    settle(setup.step / 2, pond, new, inflow, outflow, storage, classes)
+    settle(half, pond, new, inflow, outflow, storage, classes)
 }
 
 // The same, with the list for the new inflow rows: no lent row is written before 14 is known.

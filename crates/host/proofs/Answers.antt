@@ -1,7 +1,10 @@
 -- Each promise of this crate allows one answer, and one later content of what it is lent. Assumes nothing.
 use mathlib.Core.List.{List}
 use Prim.Native.Nat.{ℕ}
+use contract.Lifetimes.{Lfts}
 use denote.Ref.{now}
+use denote.Triple.Clauses.{AtExit}
+use borrow.Fn.Kinds.{endedOf}
 use lib.IntN.{ℤ}
 use lib.Ieee.{Float}
 use Rattle.laws.proofs.OneAnswer.{OneAnswer, OneAnswerAnd, same}
@@ -18,13 +21,20 @@ use Rattle.host.proofs.bt_mark.Reads as bt-mark-reads
 pub bt-interface-one : OneAnswer bt-interface-kinds.ps bt-interface-kinds.r bt-interface-reads.Post
 bt-interface-one κs a x y s t p q = same p q
 
-pub bt-study-one : OneAnswerAnd bt-study-kinds.ps bt-study-kinds.r {L = List ℕ × Rows}
-    (λ κs s. (now (s .1 .1 .1 .1 .1 .1 .1 .1 .0), rowsNow (s .1 .1 .1 .1 .1 .0) (s .1 .1 .1 .1 .1 .1 .0) (s .1 .1 .1 .1 .1 .1 .1 .0))) bt-study-reads.Post
-bt-study-one κs a x y s t p q = (same (p .0) (q .0), λ i. (same (p .1 .0) (q .1 .0) i, same (p .1 .1) (q .1 .1) i))
+-- what a call of `bt_study` leaves in the rows and in its array
+abbrev pub studyLeft : (κs : Lfts 7) → AtExit (endedOf 7 bt-study-kinds.ps bt-study-kinds.r) κs → Rows × List ℕ
+studyLeft κs (step, (first, (rule, (rain, (subareas, (pond, (inflow, (outflow, (storage, (answer, _)))))))))) = (rowsNow inflow outflow storage, now answer)
 
-pub bt-edit-one : OneAnswerAnd bt-edit-kinds.ps bt-edit-kinds.r {L = List ℕ × (List ℤ × Rows)}
-    (λ κs s. (now (s .1 .1 .1 .1 .1 .1 .1 .1 .1 .1 .0), (now (s .1 .1 .1 .1 .1 .1 .1 .1 .1 .1 .1 .0), rowsNow (s .1 .1 .1 .1 .1 .0) (s .1 .1 .1 .1 .1 .1 .0) (s .1 .1 .1 .1 .1 .1 .1 .0)))) bt-edit-reads.Post
-bt-edit-one κs a x y s t p q = (same (p .0) (q .0), λ i. (same (p .1 .0) (q .1 .0) i, (same (p .1 .1 .0) (q .1 .1 .0) i, same (p .1 .1 .1) (q .1 .1 .1) i)))
+pub bt-study-one : OneAnswerAnd bt-study-kinds.ps bt-study-kinds.r studyLeft bt-study-reads.Post
+bt-study-one κs a x y s t p q = (same (p .0) (q .0), λ i. (same (p .1 .1) (q .1 .1) i, same (p .1 .0) (q .1 .0) i))
+
+-- the same of `bt_edit`, with its changes
+abbrev pub editLeft : (κs : Lfts 9) → AtExit (endedOf 9 bt-edit-kinds.ps bt-edit-kinds.r) κs → Rows × (List ℕ × List ℤ)
+editLeft κs (step, (first, (rule, (rain, (subareas, (pond, (inflow, (outflow, (storage, (place, (fresh, (answer, (changes, _))))))))))))) =
+    (rowsNow inflow outflow storage, (now answer, now changes))
+
+pub bt-edit-one : OneAnswerAnd bt-edit-kinds.ps bt-edit-kinds.r editLeft bt-edit-reads.Post
+bt-edit-one κs a x y s t p q = (same (p .0) (q .0), λ i. (same (p .1 .1 .1) (q .1 .1 .1) i, (same (p .1 .0) (q .1 .0) i, same (p .1 .1 .0) (q .1 .1 .0) i)))
 
 pub bt-mark-one : OneAnswerAnd bt-mark-kinds.ps bt-mark-kinds.r {L = List ℕ × List Float} (λ κs s. (now (s .1 .1 .1 .1 .1 .1 .1 .0), now (s .1 .1 .1 .1 .1 .1 .1 .1 .0))) bt-mark-reads.Post
 bt-mark-one κs a x y s t p q = (same (p .0) (q .0), λ i. (same (p .1 .0) (q .1 .0) i, same (p .1 .1) (q .1 .1) i))

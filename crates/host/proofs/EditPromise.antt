@@ -12,6 +12,7 @@ use Rattle.refusals.specs.declared.Refusal.{Refusal}
 use Rattle.refusals.specs.Refusals.{unless}
 use Rattle.refusals.proofs.Orders.{some-old}
 use Rattle.subarea.specs.declared.Setup.{Setup}
+use Rattle.subarea.specs.Records.{halfOf}
 use Rattle.checks.specs.Site.{Rows}
 use Rattle.checks.specs.Order.{recordsGood, listLines, pondLines}
 use Rattle.alter.specs.Altering.{altered, placeGood}
@@ -30,7 +31,7 @@ use Rattle.host.proofs.StudyPromise.{rowsOf}
 -- lists that 5 refuses are refused alike, and nothing is written
 module _ (g : Setup) (rain p : List ℕ) (l : Rows) (k : ℕ) (r : List ℕ) where
   abbrev rest : List ℕ → List Refusal
-  rest s = unless 15 (placeGood s k) ∷ (listLines g s ++ (listLines g (altered s k r) ++ (pondLines g p ++ rowLines (on g rain p l s) l k r)))
+  rest s = unless 15 (placeGood s k) ∷ (listLines g s ++ (listLines g (altered s k r) ++ (pondLines (halfOf g) p ++ rowLines (on g rain p l s) l k r)))
 
   not-done : (s : List ℕ) → recordsGood s ≡ false → editRefusal (on g rain p l s) l k r .number ≡ 0 → ⊥
   unfolding editRefusal
@@ -52,23 +53,23 @@ module _ (g : Setup) (rain p : List ℕ) (l : Rows) (k : ℕ) (r : List ℕ) whe
   rows-kept s e = some-old (editRefusal (on g rain p l s) l k r) (not-done s e) (newRows (on g rain p l s) l k r) l
 
 -- what an edit of the flat list s says of its result and of each list that it is lent
-module _ (step first : ℕ) (rain pond inflow outflow storage : List ℕ) (place : ℕ) (fresh s : List ℕ) where
+module _ (step first rule : ℕ) (rain pond inflow outflow storage : List ℕ) (place : ℕ) (fresh s : List ℕ) where
   abbrev answer : EditAnswer
-  answer = editAnswer (on (setupOf step first) rain pond (rowsOf inflow outflow storage) s) (rowsOf inflow outflow storage) place fresh
+  answer = editAnswer (on (setupOf step first rule) rain pond (rowsOf inflow outflow storage) s) (rowsOf inflow outflow storage) place fresh
 
   abbrev pub EditIs : ℕ → List ℕ → List ℕ → List ℕ → List ℕ → List ℤ → Type 0
   EditIs r i o t z c =
       (r ≡ editRefusalIn answer .number)
       × ((z ≡ editNumbersOf answer)
-      × ((c ≡ changesOf (editValuesIn answer)) × (rowsOf i o t ≡ editRows (on (setupOf step first) rain pond (rowsOf inflow outflow storage) s) (rowsOf inflow outflow storage) place fresh)))
+      × ((c ≡ changesOf (editValuesIn answer)) × (rowsOf i o t ≡ editRows (on (setupOf step first rule) rain pond (rowsOf inflow outflow storage) s) (rowsOf inflow outflow storage) place fresh)))
 
-module _ (step first : ℕ) (rain pond inflow outflow storage : List ℕ) (place : ℕ) (fresh : List ℕ) (r : ℕ) (i o t z : List ℕ) (c : List ℤ) where
+module _ (step first rule : ℕ) (rain pond inflow outflow storage : List ℕ) (place : ℕ) (fresh : List ℕ) (r : ℕ) (i o t z : List ℕ) (c : List ℤ) where
   abbrev pub Says : List ℕ → Type 0
-  Says s = EditIs step first rain pond inflow outflow storage place fresh s r i o t z c
+  Says s = EditIs step first rule rain pond inflow outflow storage place fresh s r i o t z c
 
   refused-alike : (s u : List ℕ) → recordsGood s ≡ false → recordsGood u ≡ false → Says s → Says u
   refused-alike s u e f k =
-      let g = setupOf step first in
+      let g = setupOf step first rule in
       let l = rowsOf inflow outflow storage in
       let same = answer-alike g rain pond l place fresh s u e f in (
         k .0 ∙ ap (λ (own : EditAnswer). editRefusalIn own .number) same,

@@ -30,6 +30,7 @@ use Rattle.host.specs.declared.records.Subarea.{Subarea}
 use Rattle.host.specs.Flattened.{recordOf, putIn}
 use Rattle.host.specs.HostEdits.{SameToHost, EditBesideStudy, recordsSite}
 use Rattle.host.proofs.OneSaid.{follows}
+use Rattle.host.proofs.Answers.{studyLeft, editLeft}
 use Rattle.host.proofs.RecordAnswers.{studied, edited, StudySays, EditSays, study-said, edit-said}
 use Rattle.host.proofs.HostEdits.{host-edit-is-study, records-edit-is-study}
 use Rattle.host.proofs.bt_study.Kinds as bt-study-kinds
@@ -52,15 +53,12 @@ module _ (x : Site) (l : Rows) (k : ℕ) (r : List ℕ) {y z : Site} {m : Rows} 
         left = c ∙ same .left ∙ sym (c' ∙ (λ i. studyRows (site i) (lent i)));
       }
 
--- what a call of `bt_study` is lent, and what it leaves in the rows and in its array
+-- what a call of `bt_study` is lent
 abbrev studySite : (κs : Lfts 7) → Dens κs bt-study-kinds.ps → Site
-studySite κs (step, (first, (rain, (subareas, (pond, _))))) = siteNow (setupOf step first) rain subareas pond
+studySite κs (step, (first, (rule, (rain, (subareas, (pond, _)))))) = siteNow (setupOf step first rule) rain subareas pond
 
 abbrev studyLent : (κs : Lfts 7) → Dens κs bt-study-kinds.ps → Rows
-studyLent κs (step, (first, (rain, (subareas, (pond, (inflow, (outflow, (storage, _)))))))) = rowsNow inflow outflow storage
-
-abbrev studyLeft : (κs : Lfts 7) → AtExit (endedOf 7 bt-study-kinds.ps bt-study-kinds.r) κs → Rows × List ℕ
-studyLeft κs (step, (first, (rain, (subareas, (pond, (inflow, (outflow, (storage, (answer, _))))))))) = (rowsNow inflow outflow storage, now answer)
+studyLent κs (step, (first, (rule, (rain, (subareas, (pond, (inflow, (outflow, (storage, _))))))))) = rowsNow inflow outflow storage
 
 -- the same of `bt_edit`
 pub record EditCall : Type 0 where
@@ -70,11 +68,8 @@ pub record EditCall : Type 0 where
   pub fresh : List ℕ
 
 abbrev editCall : (κs : Lfts 9) → Dens κs bt-edit-kinds.ps → EditCall
-editCall κs (step, (first, (rain, (subareas, (pond, (inflow, (outflow, (storage, (place, (fresh, _)))))))))) =
-    record { site = siteNow (setupOf step first) rain subareas pond; rows = rowsNow inflow outflow storage; place = place; fresh = now fresh }
-
-abbrev editLeft : (κs : Lfts 9) → AtExit (endedOf 9 bt-edit-kinds.ps bt-edit-kinds.r) κs → Rows × List ℕ
-editLeft κs (step, (first, (rain, (subareas, (pond, (inflow, (outflow, (storage, (place, (fresh, (answer, _))))))))))) = (rowsNow inflow outflow storage, now answer)
+editCall κs (step, (first, (rule, (rain, (subareas, (pond, (inflow, (outflow, (storage, (place, (fresh, _))))))))))) =
+    record { site = siteNow (setupOf step first rule) rain subareas pond; rows = rowsNow inflow outflow storage; place = place; fresh = now fresh }
 
 -- an edit of rows that stand, at a listed place and with a whole record; and a study that is lent the altered site and the same rows
 pub record EditAndStudy (e : EditCall) (site : Site) (rows : Rows) : Type 0 where
@@ -88,7 +83,7 @@ pub record EditAndStudy (e : EditCall) (site : Site) (rows : Rows) : Type 0 wher
 pub bt-edit-is-bt-study : (κs : Lfts 9) (a : Dens κs bt-edit-kinds.ps) (λs : Lfts 7) (b : Dens λs bt-study-kinds.ps) → EditAndStudy (editCall κs a) (studySite λs b) (studyLent λs b)
     → (x y : ℕ) (s : AtExit (endedOf 9 bt-edit-kinds.ps bt-edit-kinds.r) κs) (t : AtExit (endedOf 7 bt-study-kinds.ps bt-study-kinds.r) λs)
     → bt-edit-reads.Post κs a x s → bt-study-reads.Post λs b y t
-    → SameToHost x (editLeft κs s .1) (editLeft κs s .0) y (studyLeft λs t .1) (studyLeft λs t .0)
+    → SameToHost x (editLeft κs s .1 .0) (editLeft κs s .0) y (studyLeft λs t .1) (studyLeft λs t .0)
 bt-edit-is-bt-study κs a λs b ok x y s t p q =
     let e = editCall κs a in
     beside (e .site) (e .rows) (e .place) (e .fresh) (host-edit-is-study (ok .stand) (e .place) (ok .listed) (ok .last) (e .fresh) (ok .whole)) (ok .altered) (ok .lent)
@@ -96,10 +91,10 @@ bt-edit-is-bt-study κs a λs b ok x y s t p q =
 
 -- over records
 abbrev recordsStudied : (κs : Lfts (bt-study-records.signature .lifetimes)) → Args bt-study-records.signature κs → Site
-recordsStudied κs (step, (first, (rain, (list, (pond, _))))) = recordsSite (setupOf step first) (now rain) (now list) (now pond)
+recordsStudied κs (step, (first, (rule, (rain, (list, (pond, _)))))) = recordsSite (setupOf step first rule) (now rain) (now list) (now pond)
 
 abbrev recordsLent : (κs : Lfts (bt-study-records.signature .lifetimes)) → Args bt-study-records.signature κs → Rows
-recordsLent κs (step, (first, (rain, (list, (pond, (inflow, (outflow, (storage, _)))))))) = rowsNow inflow outflow storage
+recordsLent κs (step, (first, (rule, (rain, (list, (pond, (inflow, (outflow, (storage, _))))))))) = rowsNow inflow outflow storage
 
 pub record RecordsCall : Type 0 where
   pub setup : Setup
@@ -111,8 +106,8 @@ pub record RecordsCall : Type 0 where
   pub fresh : List ℕ
 
 abbrev recordsCall : (κs : Lfts (bt-edit-records.signature .lifetimes)) → Args bt-edit-records.signature κs → RecordsCall
-recordsCall κs (step, (first, (rain, (list, (pond, (inflow, (outflow, (storage, (place, (fresh, _)))))))))) =
-    record { setup = setupOf step first; rain = now rain; list = now list; pond = now pond; rows = rowsNow inflow outflow storage; place = place; fresh = now fresh }
+recordsCall κs (step, (first, (rule, (rain, (list, (pond, (inflow, (outflow, (storage, (place, (fresh, _))))))))))) =
+    record { setup = setupOf step first rule; rain = now rain; list = now list; pond = now pond; rows = rowsNow inflow outflow storage; place = place; fresh = now fresh }
 
 -- an edit of rows that stand, at a listed place and with the numbers of record n; and a study that is lent the list with n in that place and the same rows
 pub record RecordsEditAndStudy (e : RecordsCall) (n : Subarea) (site : Site) (rows : Rows) : Type 0 where

@@ -24,22 +24,22 @@ use Rattle.host.proofs.records.bt_edit_records as bt-edit-records
 
 -- what a study leaves in what it is lent, and what it says of that
 abbrev pub studied : (κs : Lfts (bt-study-records.signature .lifetimes)) → AtExit bt-study-records.ended κs → Rows × List ℕ
-studied κs (step, (first, (rain, (list, (pond, (inflow, (outflow, (storage, (answer, _))))))))) = (rowsNow inflow outflow storage, now answer)
+studied κs (step, (first, (rule, (rain, (list, (pond, (inflow, (outflow, (storage, (answer, _)))))))))) = (rowsNow inflow outflow storage, now answer)
 
 abbrev pub StudySays : (κs : Lfts (bt-study-records.signature .lifetimes)) → Args bt-study-records.signature κs → ℕ → AtExit bt-study-records.ended κs → Type 0
-StudySays κs (step, (first, (rain, (list, (pond, (inflow, (outflow, (storage, _)))))))) r s =
+StudySays κs (step, (first, (rule, (rain, (list, (pond, (inflow, (outflow, (storage, _))))))))) r s =
     let z = studied κs s in
-    StudyIs step first (now rain) (now pond) (now inflow) (now outflow) (now storage) (flatOf (now list)) r (z .0 .inflow) (z .0 .outflow) (z .0 .storage) (z .1)
+    StudyIs step first rule (now rain) (now pond) (now inflow) (now outflow) (now storage) (flatOf (now list)) r (z .0 .inflow) (z .0 .outflow) (z .0 .storage) (z .1)
 
 -- the same of an edit
 abbrev pub edited : (κs : Lfts (bt-edit-records.signature .lifetimes)) → AtExit bt-edit-records.ended κs → Rows × (List ℕ × List ℤ)
-edited κs (step, (first, (rain, (list, (pond, (inflow, (outflow, (storage, (place, (fresh, (answer, (changes, _)))))))))))) =
+edited κs (step, (first, (rule, (rain, (list, (pond, (inflow, (outflow, (storage, (place, (fresh, (answer, (changes, _))))))))))))) =
     (rowsNow inflow outflow storage, (now answer, now changes))
 
 abbrev pub EditSays : (κs : Lfts (bt-edit-records.signature .lifetimes)) → Args bt-edit-records.signature κs → ℕ → AtExit bt-edit-records.ended κs → Type 0
-EditSays κs (step, (first, (rain, (list, (pond, (inflow, (outflow, (storage, (place, (fresh, _)))))))))) r s =
+EditSays κs (step, (first, (rule, (rain, (list, (pond, (inflow, (outflow, (storage, (place, (fresh, _))))))))))) r s =
     let z = edited κs s in
-    EditIs step first (now rain) (now pond) (now inflow) (now outflow) (now storage) place (now fresh) (flatOf (now list)) r (z .0 .inflow) (z .0 .outflow) (z .0 .storage) (z .1 .0) (z .1 .1)
+    EditIs step first rule (now rain) (now pond) (now inflow) (now outflow) (now storage) place (now fresh) (flatOf (now list)) r (z .0 .inflow) (z .0 .outflow) (z .0 .storage) (z .1 .0) (z .1 .1)
 
 module _ {M : Type 1} (𝓤 : URA M) (H : Heap 𝓤) (A : Atoms 𝓤) (mem : Memory → SProp 𝓤) (run : Routine → Fun 𝓤) where
   pub study-said : (κs : Lfts (bt-study-records.signature .lifetimes)) (a : Args bt-study-records.signature κs) (r : ℕ) (s : AtExit bt-study-records.ended κs)

@@ -14,8 +14,8 @@ use Rattle.refusals.specs.Refusals.{unless, firstRefusal}
 use Rattle.refusals.proofs.Orders.{stops, all-pass, both-pass, charge-none}
 use Rattle.subarea.specs.declared.Setup.{Setup}
 use Rattle.subarea.specs.Records.{width, recordsIn}
-use Rattle.checks.specs.Site.{Site, Rows, asked}
-use Rattle.checks.specs.Order.{recordsGood, lastGood, frameLines, rainLines, runLines}
+use Rattle.checks.specs.Site.{Site, Rows}
+use Rattle.checks.specs.Order.{recordsGood, foreLines, runLines}
 use Rattle.host.specs.declared.records.Subarea.{Subarea}
 use Rattle.host.specs.Flattened.{flatOf}
 use Rattle.host.proofs.Handing.{flat-length}
@@ -42,8 +42,7 @@ module _ (g : Setup) (rain p : List ℕ) (l : Rows) where
   -- 1 to 5 refuse a list that 5 refuses
   run-refuses : (s : List ℕ) → recordsGood s ≡ false → firstRefusal (runLines (on s) l) .number ≡ 0 → ⊥
   run-refuses s e q =
-      let fore = frameLines g l ++ rainLines rain (asked l) ++ (unless 4 (lastGood g (asked l)) ∷ []) in
-      let five = both-pass fore (unless 5 (recordsGood s) ∷ []) (all-pass (runLines (on s) l) q) .1 .0 in
+      let five = both-pass (foreLines g rain l) (unless 5 (recordsGood s) ∷ []) (all-pass (runLines (on s) l) q) .1 .0 in
       true≢false (sym (charge-none 4 (recordsGood s) 0 five) ∙ e)
 
   -- and look at no more of it: an order that begins with them refuses two such lists alike

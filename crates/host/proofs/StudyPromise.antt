@@ -28,7 +28,7 @@ use Rattle.host.proofs.Refused.{none-refused, many-refused, on, alike, 
 -- lists that 5 refuses are refused alike, and nothing is written
 module _ (g : Setup) (rain p : List ℕ) (l : Rows) where
   abbrev rest : List ℕ → List Refusal
-  rest s = listLines g s ++ (pondLines g p ++ (overOf (on g rain p l s) l ∷ []))
+  rest s = listLines g s ++ (pondLines (halfOf g) p ++ (overOf (on g rain p l s) l ∷ []))
 
   not-done : (s : List ℕ) → recordsGood s ≡ false → studyRefusal (on g rain p l s) l .number ≡ 0 → ⊥
   unfolding studyRefusal
@@ -54,22 +54,22 @@ abbrev pub rowsOf : List ℕ → List ℕ → List ℕ → Rows
 rowsOf i o t = record { inflow = i; outflow = o; storage = t }
 
 -- what a study of the flat list s says of its result and of each list that it is lent
-module _ (step first : ℕ) (rain pond inflow outflow storage s : List ℕ) where
+module _ (step first rule : ℕ) (rain pond inflow outflow storage s : List ℕ) where
   abbrev answer : StudyAnswer
-  answer = studyAnswer (on (setupOf step first) rain pond (rowsOf inflow outflow storage) s) (rowsOf inflow outflow storage)
+  answer = studyAnswer (on (setupOf step first rule) rain pond (rowsOf inflow outflow storage) s) (rowsOf inflow outflow storage)
 
   abbrev pub StudyIs : ℕ → List ℕ → List ℕ → List ℕ → List ℕ → Type 0
   StudyIs r i o t z =
       (r ≡ studyRefusalIn answer .number)
-      × ((z ≡ studyNumbersOf answer) × (rowsOf i o t ≡ studyRows (on (setupOf step first) rain pond (rowsOf inflow outflow storage) s) (rowsOf inflow outflow storage)))
+      × ((z ≡ studyNumbersOf answer) × (rowsOf i o t ≡ studyRows (on (setupOf step first rule) rain pond (rowsOf inflow outflow storage) s) (rowsOf inflow outflow storage)))
 
-module _ (step first : ℕ) (rain pond inflow outflow storage : List ℕ) (r : ℕ) (i o t z : List ℕ) where
+module _ (step first rule : ℕ) (rain pond inflow outflow storage : List ℕ) (r : ℕ) (i o t z : List ℕ) where
   abbrev pub Says : List ℕ → Type 0
-  Says s = StudyIs step first rain pond inflow outflow storage s r i o t z
+  Says s = StudyIs step first rule rain pond inflow outflow storage s r i o t z
 
   refused-alike : (s u : List ℕ) → recordsGood s ≡ false → recordsGood u ≡ false → Says s → Says u
   refused-alike s u e f k =
-      let g = setupOf step first in
+      let g = setupOf step first rule in
       let l = rowsOf inflow outflow storage in
       let same = answer-alike g rain pond l s u e f in (
         k .0 ∙ ap (λ (own : StudyAnswer). studyRefusalIn own .number) same,

@@ -16,7 +16,7 @@ ghost use Rattle.host.specs.Interface.{interface};
 
 // Raised with each change of a layout or of a signature below, or of the rows that a study leaves; the header's BT_INTERFACE is
 // the same.
-const INTERFACE: u64 = 3;
+const INTERFACE: u64 = 4;
 
 // The number of the interface that this engine was built with.
 #[no_mangle]
@@ -31,6 +31,7 @@ pub extern "C" fn bt_interface() -> u64
 pub extern "C" fn bt_study(
     step: u64,
     first: u64,
+    rule: u64,
     rain: &[u64],
     subareas: &[u64],
     pond: &[u64],
@@ -39,11 +40,11 @@ pub extern "C" fn bt_study(
     storage: &mut [u64],
     answer: &mut [u64; 12],
 ) -> u64
-    ensures { λ r. ⌜ r ≡ studyRefusalIn (studyAnswer (site (setupOf step first) rain subareas pond) (found inflow outflow storage)) .number ⌝ }
-    ensures { λ _. ⌜ now (answer .exit) ≡ studyNumbersOf (studyAnswer (site (setupOf step first) rain subareas pond) (found inflow outflow storage)) ⌝ }
-    ensures { λ _. ⌜ left inflow outflow storage ≡ studyRows (site (setupOf step first) rain subareas pond) (found inflow outflow storage) ⌝ }
+    ensures { λ r. ⌜ r ≡ studyRefusalIn (studyAnswer (site (setupOf step first rule) rain subareas pond) (found inflow outflow storage)) .number ⌝ }
+    ensures { λ _. ⌜ now (answer .exit) ≡ studyNumbersOf (studyAnswer (site (setupOf step first rule) rain subareas pond) (found inflow outflow storage)) ⌝ }
+    ensures { λ _. ⌜ left inflow outflow storage ≡ studyRows (site (setupOf step first rule) rain subareas pond) (found inflow outflow storage) ⌝ }
 {
-    let setup = Setup { step, first };
+    let setup = Setup { step, first, rule };
     let own = study::run(setup, rain, subareas, pond, inflow, outflow, storage);
     answers::put_study(own, answer)
 }
@@ -54,6 +55,7 @@ pub extern "C" fn bt_study(
 pub extern "C" fn bt_edit(
     step: u64,
     first: u64,
+    rule: u64,
     rain: &[u64],
     subareas: &[u64],
     pond: &[u64],
@@ -65,12 +67,12 @@ pub extern "C" fn bt_edit(
     answer: &mut [u64; 13],
     changes: &mut [i64; 2],
 ) -> u64
-    ensures { λ r. ⌜ r ≡ editRefusalIn (editAnswer (site (setupOf step first) rain subareas pond) (found inflow outflow storage) place (now (fresh .entry))) .number ⌝ }
-    ensures { λ _. ⌜ now (answer .exit) ≡ editNumbersOf (editAnswer (site (setupOf step first) rain subareas pond) (found inflow outflow storage) place (now (fresh .entry))) ⌝ }
-    ensures { λ _. ⌜ now (changes .exit) ≡ changesOf (editValuesIn (editAnswer (site (setupOf step first) rain subareas pond) (found inflow outflow storage) place (now (fresh .entry)))) ⌝ }
-    ensures { λ _. ⌜ left inflow outflow storage ≡ editRows (site (setupOf step first) rain subareas pond) (found inflow outflow storage) place (now (fresh .entry)) ⌝ }
+    ensures { λ r. ⌜ r ≡ editRefusalIn (editAnswer (site (setupOf step first rule) rain subareas pond) (found inflow outflow storage) place (now (fresh .entry))) .number ⌝ }
+    ensures { λ _. ⌜ now (answer .exit) ≡ editNumbersOf (editAnswer (site (setupOf step first rule) rain subareas pond) (found inflow outflow storage) place (now (fresh .entry))) ⌝ }
+    ensures { λ _. ⌜ now (changes .exit) ≡ changesOf (editValuesIn (editAnswer (site (setupOf step first rule) rain subareas pond) (found inflow outflow storage) place (now (fresh .entry)))) ⌝ }
+    ensures { λ _. ⌜ left inflow outflow storage ≡ editRows (site (setupOf step first rule) rain subareas pond) (found inflow outflow storage) place (now (fresh .entry)) ⌝ }
 {
-    let setup = Setup { step, first };
+    let setup = Setup { step, first, rule };
     let own = edit::run(
         setup,
         rain,
@@ -98,11 +100,10 @@ pub extern "C" fn bt_mark(
     answer: &mut [u64; 3],
     values: &mut [f64; 5],
 ) -> u64
-    ensures { λ r. ⌜ r ≡ markRefusalIn (markAnswer (setupOf step first) (now (pond .entry)) (found inflow outflow storage) row) .number ⌝ }
-    ensures { λ _. ⌜ now (answer .exit) ≡ markNumbersOf (markAnswer (setupOf step first) (now (pond .entry)) (found inflow outflow storage) row) ⌝ }
-    ensures { λ _. ⌜ now (values .exit) ≡ markValuesIn (markAnswer (setupOf step first) (now (pond .entry)) (found inflow outflow storage) row) ⌝ }
+    ensures { λ r. ⌜ r ≡ markRefusalIn (markAnswer step first (now (pond .entry)) (found inflow outflow storage) row) .number ⌝ }
+    ensures { λ _. ⌜ now (answer .exit) ≡ markNumbersOf (markAnswer step first (now (pond .entry)) (found inflow outflow storage) row) ⌝ }
+    ensures { λ _. ⌜ now (values .exit) ≡ markValuesIn (markAnswer step first (now (pond .entry)) (found inflow outflow storage) row) ⌝ }
 {
-    let setup = Setup { step, first };
-    let own = marks::mark_row(setup, pond, inflow, outflow, storage, row);
+    let own = marks::mark_row(step, first, pond, inflow, outflow, storage, row);
     answers::put_mark(own, answer, values)
 }

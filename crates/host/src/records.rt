@@ -58,6 +58,7 @@ fn study_of(
     n: usize,
     step: u64,
     first: u64,
+    rule: u64,
     rain: &[u64],
     pond: &[u64],
     inflow: &mut [u64],
@@ -65,13 +66,13 @@ fn study_of(
     storage: &mut [u64],
     answer: &mut [u64; 12],
 ) -> u64
-    ensures { λ r. ⌜ r ≡ studyRefusalIn (studyAnswer (listSite (setupOf step first) rain (handed flat n) pond) (found inflow outflow storage)) .number ⌝ }
-    ensures { λ _. ⌜ now (answer .exit) ≡ studyNumbersOf (studyAnswer (listSite (setupOf step first) rain (handed flat n) pond) (found inflow outflow storage)) ⌝ }
-    ensures { λ _. ⌜ left inflow outflow storage ≡ studyRows (listSite (setupOf step first) rain (handed flat n) pond) (found inflow outflow storage) ⌝ }
+    ensures { λ r. ⌜ r ≡ studyRefusalIn (studyAnswer (listSite (setupOf step first rule) rain (handed flat n) pond) (found inflow outflow storage)) .number ⌝ }
+    ensures { λ _. ⌜ now (answer .exit) ≡ studyNumbersOf (studyAnswer (listSite (setupOf step first rule) rain (handed flat n) pond) (found inflow outflow storage)) ⌝ }
+    ensures { λ _. ⌜ left inflow outflow storage ≡ studyRows (listSite (setupOf step first rule) rain (handed flat n) pond) (found inflow outflow storage) ⌝ }
 {
     let numbers = flat.numbers;
     let e = used_by(n);
-    let setup = Setup { step, first };
+    let setup = Setup { step, first, rule };
     let own = study::run(setup, rain, &numbers[..e], pond, inflow, outflow, storage);
     answers::put_study(own, answer)
 }
@@ -81,6 +82,7 @@ fn study_of(
 pub extern "C" fn bt_study_records(
     step: u64,
     first: u64,
+    rule: u64,
     rain: &[u64],
     list: &[Subarea],
     pond: &[u64],
@@ -89,9 +91,9 @@ pub extern "C" fn bt_study_records(
     storage: &mut [u64],
     answer: &mut [u64; 12],
 ) -> u64
-    ensures { λ r. ⌜ r ≡ studyRefusalIn (studyAnswer (listSite (setupOf step first) rain (flatOf (now (list .entry))) pond) (found inflow outflow storage)) .number ⌝ }
-    ensures { λ _. ⌜ now (answer .exit) ≡ studyNumbersOf (studyAnswer (listSite (setupOf step first) rain (flatOf (now (list .entry))) pond) (found inflow outflow storage)) ⌝ }
-    ensures { λ _. ⌜ left inflow outflow storage ≡ studyRows (listSite (setupOf step first) rain (flatOf (now (list .entry))) pond) (found inflow outflow storage) ⌝ }
+    ensures { λ r. ⌜ r ≡ studyRefusalIn (studyAnswer (listSite (setupOf step first rule) rain (flatOf (now (list .entry))) pond) (found inflow outflow storage)) .number ⌝ }
+    ensures { λ _. ⌜ now (answer .exit) ≡ studyNumbersOf (studyAnswer (listSite (setupOf step first rule) rain (flatOf (now (list .entry))) pond) (found inflow outflow storage)) ⌝ }
+    ensures { λ _. ⌜ left inflow outflow storage ≡ studyRows (listSite (setupOf step first rule) rain (flatOf (now (list .entry))) pond) (found inflow outflow storage) ⌝ }
 {
     let flat = gathering::gather(list);
     study_of(
@@ -99,6 +101,7 @@ pub extern "C" fn bt_study_records(
         list.len(),
         step,
         first,
+        rule,
         rain,
         pond,
         inflow,
@@ -114,6 +117,7 @@ fn edit_of(
     n: usize,
     step: u64,
     first: u64,
+    rule: u64,
     rain: &[u64],
     pond: &[u64],
     inflow: &mut [u64],
@@ -124,14 +128,14 @@ fn edit_of(
     answer: &mut [u64; 13],
     changes: &mut [i64; 2],
 ) -> u64
-    ensures { λ r. ⌜ r ≡ editRefusalIn (editAnswer (listSite (setupOf step first) rain (handed flat n) pond) (found inflow outflow storage) place (now (fresh .entry))) .number ⌝ }
-    ensures { λ _. ⌜ now (answer .exit) ≡ editNumbersOf (editAnswer (listSite (setupOf step first) rain (handed flat n) pond) (found inflow outflow storage) place (now (fresh .entry))) ⌝ }
-    ensures { λ _. ⌜ now (changes .exit) ≡ changesOf (editValuesIn (editAnswer (listSite (setupOf step first) rain (handed flat n) pond) (found inflow outflow storage) place (now (fresh .entry)))) ⌝ }
-    ensures { λ _. ⌜ left inflow outflow storage ≡ editRows (listSite (setupOf step first) rain (handed flat n) pond) (found inflow outflow storage) place (now (fresh .entry)) ⌝ }
+    ensures { λ r. ⌜ r ≡ editRefusalIn (editAnswer (listSite (setupOf step first rule) rain (handed flat n) pond) (found inflow outflow storage) place (now (fresh .entry))) .number ⌝ }
+    ensures { λ _. ⌜ now (answer .exit) ≡ editNumbersOf (editAnswer (listSite (setupOf step first rule) rain (handed flat n) pond) (found inflow outflow storage) place (now (fresh .entry))) ⌝ }
+    ensures { λ _. ⌜ now (changes .exit) ≡ changesOf (editValuesIn (editAnswer (listSite (setupOf step first rule) rain (handed flat n) pond) (found inflow outflow storage) place (now (fresh .entry)))) ⌝ }
+    ensures { λ _. ⌜ left inflow outflow storage ≡ editRows (listSite (setupOf step first rule) rain (handed flat n) pond) (found inflow outflow storage) place (now (fresh .entry)) ⌝ }
 {
     let numbers = flat.numbers;
     let e = used_by(n);
-    let setup = Setup { step, first };
+    let setup = Setup { step, first, rule };
     let own = edit::run(
         setup,
         rain,
@@ -151,6 +155,7 @@ fn edit_of(
 pub extern "C" fn bt_edit_records(
     step: u64,
     first: u64,
+    rule: u64,
     rain: &[u64],
     list: &[Subarea],
     pond: &[u64],
@@ -162,10 +167,10 @@ pub extern "C" fn bt_edit_records(
     answer: &mut [u64; 13],
     changes: &mut [i64; 2],
 ) -> u64
-    ensures { λ r. ⌜ r ≡ editRefusalIn (editAnswer (listSite (setupOf step first) rain (flatOf (now (list .entry))) pond) (found inflow outflow storage) place (now (fresh .entry))) .number ⌝ }
-    ensures { λ _. ⌜ now (answer .exit) ≡ editNumbersOf (editAnswer (listSite (setupOf step first) rain (flatOf (now (list .entry))) pond) (found inflow outflow storage) place (now (fresh .entry))) ⌝ }
-    ensures { λ _. ⌜ now (changes .exit) ≡ changesOf (editValuesIn (editAnswer (listSite (setupOf step first) rain (flatOf (now (list .entry))) pond) (found inflow outflow storage) place (now (fresh .entry)))) ⌝ }
-    ensures { λ _. ⌜ left inflow outflow storage ≡ editRows (listSite (setupOf step first) rain (flatOf (now (list .entry))) pond) (found inflow outflow storage) place (now (fresh .entry)) ⌝ }
+    ensures { λ r. ⌜ r ≡ editRefusalIn (editAnswer (listSite (setupOf step first rule) rain (flatOf (now (list .entry))) pond) (found inflow outflow storage) place (now (fresh .entry))) .number ⌝ }
+    ensures { λ _. ⌜ now (answer .exit) ≡ editNumbersOf (editAnswer (listSite (setupOf step first rule) rain (flatOf (now (list .entry))) pond) (found inflow outflow storage) place (now (fresh .entry))) ⌝ }
+    ensures { λ _. ⌜ now (changes .exit) ≡ changesOf (editValuesIn (editAnswer (listSite (setupOf step first rule) rain (flatOf (now (list .entry))) pond) (found inflow outflow storage) place (now (fresh .entry)))) ⌝ }
+    ensures { λ _. ⌜ left inflow outflow storage ≡ editRows (listSite (setupOf step first rule) rain (flatOf (now (list .entry))) pond) (found inflow outflow storage) place (now (fresh .entry)) ⌝ }
 {
     let flat = gathering::gather(list);
     edit_of(
@@ -173,6 +178,7 @@ pub extern "C" fn bt_edit_records(
         list.len(),
         step,
         first,
+        rule,
         rain,
         pond,
         inflow,

@@ -31,7 +31,7 @@ inflowRows g rain s m = rowsFrom (inflowAt g rain s) 1 m
 abbrev pub inflowOf : Site → Rows → List ℕ
 inflowOf x l = inflowRows (x .setup) (x .rain) (x .subareas) (asked l)
 
--- the inflow rows alone: the first refusal in the order 1 to 11, with 19 after 3, and the inflow list afterwards
+-- the inflow rows alone: the first refusal in the order 1 to 11, with 20 after 2 and 19 after 3, and the inflow list afterwards
 unfoldable pub inflowRefusal : Site → Rows → Refusal
 inflowRefusal x l = firstRefusal (inflowLines x l)
 

@@ -2,7 +2,7 @@
 use mathlib.Core.Path.{_≡_, refl, sym, ap, _∙_}
 use mathlib.Core.Bool.{Bool, true, false}
 use mathlib.Core.List.{List, [], _∷_, _++_}
-use Prim.Native.Nat.{ℕ, _+_}
+use Prim.Native.Nat.{ℕ, _+_, _/_}
 use native.Mathlib.Omega.{arith}
 use borrow.Author.Tests.{eqb-true, eqb-false}
 use lib.Dec.{ltb}
@@ -12,8 +12,6 @@ use Rattle.laws.specs.Pick.{pick}
 use Rattle.laws.specs.Within.{within}
 use Rattle.laws.proofs.Tests.{by-test}
 use Rattle.rows.specs.Figures.{firstForged}
-use Rattle.subarea.specs.declared.Setup.{Setup}
-use Rattle.subarea.specs.Records.{halfOf}
 use Rattle.refusals.specs.declared.Refusal.{Refusal}
 use Rattle.checks.specs.Site.{Rows}
 use Rattle.refusals.specs.Refusals.{refuse, none, unless, firstOf, passes, First}
@@ -40,42 +38,42 @@ pick-read : {A B : Type 0} (f : A → B) (b : Bool) (x y : A) → f (pick b x y)
 pick-read f true x y = refl
 pick-read f false x y = refl
 
-module _ (g : Setup) (p : List ℕ) (l : Rows) (k : ℕ) where
+module _ (D first : ℕ) (p : List ℕ) (l : Rows) (k : ℕ) where
   -- refused: the refusal stands in document 01's list, and every line before it passes
-  pub mark-order : (markRefusal g p l k .number ≡ 0 → ⊥) → First (markOrder g p l k) (markRefusal g p l k)
+  pub mark-order : (markRefusal D first p l k .number ≡ 0 → ⊥) → First (markOrder D first p l k) (markRefusal D first p l k)
   unfolding markRefusal
-  mark-order n = first-there (markOrder g p l k) n
+  mark-order n = first-there (markOrder D first p l k) n
 
   -- accepted: neither number nor place
-  done-none : markRefusal g p l k .number ≡ 0 → none ≡ markRefusal g p l k
+  done-none : markRefusal D first p l k .number ≡ 0 → none ≡ markRefusal D first p l k
   unfolding markRefusal
   done-none e =
-      let i = firstForged (halfOf g) p (l .outflow) (l .storage) in
-      let last = last-is (markLines g l ++ (pondLines g p ++ (unless 18 (within 1 k (length (l .outflow))) ∷ []))) (firstOf 17 i (length (l .outflow))) e in
+      let i = firstForged (D / 2) p (l .outflow) (l .storage) in
+      let last = last-is (markLines D first l ++ (pondLines (D / 2) p ++ (unless 18 (within 1 k (length (l .outflow))) ∷ []))) (firstOf 17 i (length (l .outflow))) e in
       sym (last ∙ forged-none i (length (l .outflow)) (sym (ap (λ (z : Refusal). z .number) last) ∙ e))
 
   -- an answer's number and place are those of the refusal, or 0 and 0 when done
-  pub mark-refusal : markRefusalIn (markAnswer g p l k) ≡ markRefusal g p l k
+  pub mark-refusal : markRefusalIn (markAnswer D first p l k) ≡ markRefusal D first p l k
   unfolding markAnswer
   mark-refusal =
-      let v = markRefusal g p l k in
-      by-test (λ (a : MarkAnswer). markRefusalIn a ≡ v) (passes v) (Done (markedOf g p (l .outflow) (l .storage) k)) (Refused v) (λ t. done-none (eqb-true (v .number) 0 t)) (λ t. refl)
+      let v = markRefusal D first p l k in
+      by-test (λ (a : MarkAnswer). markRefusalIn a ≡ v) (passes v) (Done (markedOf D first p (l .outflow) (l .storage) k)) (Refused v) (λ t. done-none (eqb-true (v .number) 0 t)) (λ t. refl)
 
   -- its kind and its values are the mark's, every one 0 when refused
-  pub mark-kind : markKindIn (markAnswer g p l k) ≡ markKind g p l k
+  pub mark-kind : markKindIn (markAnswer D first p l k) ≡ markKind D first p l k
   unfolding markAnswer markKind
-  mark-kind = pick-read markKindIn (passes (markRefusal g p l k)) _ _
+  mark-kind = pick-read markKindIn (passes (markRefusal D first p l k)) _ _
 
-  pub mark-values : markValuesIn (markAnswer g p l k) ≡ markValues g p l k
+  pub mark-values : markValuesIn (markAnswer D first p l k) ≡ markValues D first p l k
   unfolding markAnswer markValues
-  mark-values = pick-read markValuesIn (passes (markRefusal g p l k)) _ _
+  mark-values = pick-read markValuesIn (passes (markRefusal D first p l k)) _ _
 
   -- and where it is refused, there is a number
-  pub mark-numbered : Numbered (markAnswer g p l k)
+  pub mark-numbered : Numbered (markAnswer D first p l k)
   unfolding markAnswer
   mark-numbered =
-      let v = markRefusal g p l k in
-      by-test Numbered (passes v) (Done (markedOf g p (l .outflow) (l .storage) k)) (Refused v) (λ t. tt) (λ t. eqb-false (v .number) 0 t)
+      let v = markRefusal D first p l k in
+      by-test Numbered (passes v) (Done (markedOf D first p (l .outflow) (l .storage) k)) (Refused v) (λ t. tt) (λ t. eqb-false (v .number) 0 t)
 
 -- kind, outflow and stage tell the mark
 mark-told : (a b : Mark) → kindOf a ≡ kindOf b → flowOf a ≡ flowOf b → stageOf a ≡ stageOf b → a ≡ b

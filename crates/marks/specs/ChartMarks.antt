@@ -2,7 +2,7 @@
 use mathlib.Core.Path.{_≡_}
 use mathlib.Core.Bool.{false}
 use mathlib.Core.List.{List, [], _∷_, _++_}
-use Prim.Native.Nat.{ℕ, _+_, _-_, _*_, _<_}
+use Prim.Native.Nat.{ℕ, _+_, _-_, _*_, _/_, _<_}
 use lib.ListN.{length}
 use lib.Dec.{T, eqb}
 use lib.IntN.{pos}
@@ -12,9 +12,7 @@ use Rattle.laws.specs.Pick.{pick}
 use Rattle.laws.specs.Within.{within}
 use Rattle.pond.specs.PondRows.{stageAt}
 use Rattle.rows.specs.Figures.{at, peakRow}
-use Rattle.subarea.specs.declared.Setup.{Setup}
 use Rattle.refusals.specs.declared.Refusal.{Refusal}
-use Rattle.subarea.specs.Records.{halfOf}
 use Rattle.checks.specs.Site.{Rows, asked}
 use Rattle.refusals.specs.Refusals.{none, unless, firstRefusal, after}
 use Rattle.checks.specs.Order.{frameLines, lastGood, pondLines, forgedLine}
@@ -37,39 +35,39 @@ markAt h p peak k o s =
     (Outflow (doubleOf o)))
 
 -- the point of row k with outflow o: row number first + k - 1, seconds from the start k D, and outflow (k is 1 or above: mark-ok)
-unfoldable pub pointAt : Setup → ℕ → ℕ → Point
-pointAt g k o = record { row = doubleOf (g .first + k - 1); seconds = doubleOf (k * g .step); outflow = doubleOf o }
+unfoldable pub pointAt : ℕ → ℕ → ℕ → ℕ → Point
+pointAt D first k o = record { row = doubleOf (first + k - 1); seconds = doubleOf (k * D); outflow = doubleOf o }
 
 -- the mark and the point of row k, from 1 (mark-ok); the peak row is the first with the greatest outflow of all
-unfoldable pub markedOf : Setup → List ℕ → List ℕ → List ℕ → ℕ → Marked
-markedOf g p os ss k =
+unfoldable pub markedOf : ℕ → ℕ → List ℕ → List ℕ → List ℕ → ℕ → Marked
+markedOf D first p os ss k =
     record {
-      mark = markAt (halfOf g) p (peakRow os (length os)) k (at os (k - 1)) (at ss (k - 1));
-      point = pointAt g k (at os (k - 1));
+      mark = markAt (D / 2) p (peakRow os (length os)) k (at os (k - 1)) (at ss (k - 1));
+      point = pointAt D first k (at os (k - 1));
     }
 
 -- 1, 2 and 4
-abbrev pub markLines : Setup → Rows → List Refusal
-markLines g l = frameLines g l ++ (unless 4 (lastGood g (asked l)) ∷ [])
+abbrev pub markLines : ℕ → ℕ → Rows → List Refusal
+markLines D first l = frameLines D l ++ (unless 4 (lastGood first (asked l)) ∷ [])
 
 -- 18: the row asked is 1 to m; 17: all rows, whatever row is asked
-abbrev pub askedLines : Setup → List ℕ → Rows → ℕ → List Refusal
-askedLines g p l k =
+abbrev pub askedLines : ℕ → List ℕ → Rows → ℕ → List Refusal
+askedLines h p l k =
     unless 18 (within 1 k (length (l .outflow)))
-    ∷ forgedLine g p l
+    ∷ forgedLine h p l
     ∷ []
 
 -- document 01's order of a mark, line by line: 1, 2, 4, 12, 13, 18, 17
-abbrev pub markOrder : Setup → List ℕ → Rows → ℕ → List Refusal
-markOrder g p l k = markLines g l ++ pondLines g p ++ askedLines g p l k
+abbrev pub markOrder : ℕ → ℕ → List ℕ → Rows → ℕ → List Refusal
+markOrder D first p l k = markLines D first l ++ pondLines (D / 2) p ++ askedLines (D / 2) p l k
 
 -- the first refusal of a mark
-unfoldable pub markRefusal : Setup → List ℕ → Rows → ℕ → Refusal
-markRefusal g p l k = firstRefusal (markOrder g p l k)
+unfoldable pub markRefusal : ℕ → ℕ → List ℕ → Rows → ℕ → Refusal
+markRefusal D first p l k = firstRefusal (markOrder D first p l k)
 
 -- what a mark answers; of the inflow list only the length is read
-unfoldable pub markAnswer : Setup → List ℕ → Rows → ℕ → MarkAnswer
-markAnswer g p l k = after (markRefusal g p l k) (Done (markedOf g p (l .outflow) (l .storage) k)) (Refused (markRefusal g p l k))
+unfoldable pub markAnswer : ℕ → ℕ → List ℕ → Rows → ℕ → MarkAnswer
+markAnswer D first p l k = after (markRefusal D first p l k) (Done (markedOf D first p (l .outflow) (l .storage) k)) (Refused (markRefusal D first p l k))
 
 -- the kind of a mark: 0 none, 1 an outflow, 2 a peak
 abbrev pub kindOf : Mark → ℕ
@@ -96,11 +94,11 @@ abbrev pub noDoubles : List Float
 noDoubles = doubleOf 0 ∷ doubleOf 0 ∷ doubleOf 0 ∷ doubleOf 0 ∷ doubleOf 0 ∷ []
 
 -- the kind and the values of a mark: every one 0 when something is refused
-unfoldable pub markKind : Setup → List ℕ → Rows → ℕ → ℕ
-markKind g p l k = after (markRefusal g p l k) (kindOf (markedOf g p (l .outflow) (l .storage) k .mark)) 0
+unfoldable pub markKind : ℕ → ℕ → List ℕ → Rows → ℕ → ℕ
+markKind D first p l k = after (markRefusal D first p l k) (kindOf (markedOf D first p (l .outflow) (l .storage) k .mark)) 0
 
-unfoldable pub markValues : Setup → List ℕ → Rows → ℕ → List Float
-markValues g p l k = after (markRefusal g p l k) (doublesOf (markedOf g p (l .outflow) (l .storage) k)) noDoubles
+unfoldable pub markValues : ℕ → ℕ → List ℕ → Rows → ℕ → List Float
+markValues D first p l k = after (markRefusal D first p l k) (doublesOf (markedOf D first p (l .outflow) (l .storage) k)) noDoubles
 
 -- the number and the place, the kind and the values that an answer has: 0 and 0 when done, kind and values 0 when refused
 abbrev pub markRefusalIn : MarkAnswer → Refusal

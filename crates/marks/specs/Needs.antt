@@ -1,13 +1,11 @@
 -- What contracts ask of a mark, and proofs use; no rule of document 01 is here.
 use mathlib.Core.Path.{_≡_}
 use mathlib.Core.List.{List}
-use Prim.Native.Nat.{ℕ, _+_, _-_, _*_, _≤_}
+use Prim.Native.Nat.{ℕ, _+_, _-_, _*_, _/_, _≤_}
 use lib.ListN.{length}
 use Rattle.laws.specs.Limits.{mostStep, lastNumber}
 use Rattle.pond.specs.Needs.{PondOk}
 use Rattle.rows.specs.Needs.{RowsOk}
-use Rattle.subarea.specs.declared.Setup.{Setup}
-use Rattle.subarea.specs.Records.{halfOf}
 use Rattle.checks.specs.Site.{Rows, asked}
 use Rattle.checks.specs.Needs.{StepOk, LengthsOk}
 use Rattle.marks.specs.declared.MarkAnswer.{MarkAnswer}
@@ -18,26 +16,26 @@ abbrev pub mostExact : ℕ
 mostExact = lastNumber
 
 -- what 1, 2 and 4 leave
-pub record MarkReady (g : Setup) (l : Rows) : Type 0 where
+pub record MarkReady (D first : ℕ) (l : Rows) : Type 0 where
   pub lengths : LengthsOk l
-  pub step : StepOk g
-  pub last : g .first + asked l - 1 ≤ lastNumber
+  pub step : StepOk D
+  pub last : first + asked l - 1 ≤ lastNumber
 
 -- a point whose three numbers are doubles themselves
-pub record PointOk (g : Setup) (k o : ℕ) : Type 0 where
+pub record PointOk (D first : ℕ) (k o : ℕ) : Type 0 where
   pub least : 1 ≤ k
-  pub number : g .first + k - 1 ≤ mostExact
-  pub time : k * g .step ≤ mostExact
+  pub number : first + k - 1 ≤ mostExact
+  pub time : k * D ≤ mostExact
   pub flow : o ≤ mostExact
 
 -- what the refusals of a mark leave
-pub record MarkOk (g : Setup) (p os ss : List ℕ) (k : ℕ) : Type 0 where
-  pub pond : PondOk (halfOf g) p
-  pub rows : RowsOk (halfOf g) p os ss
+pub record MarkOk (D first : ℕ) (p os ss : List ℕ) (k : ℕ) : Type 0 where
+  pub pond : PondOk (D / 2) p
+  pub rows : RowsOk (D / 2) p os ss
   pub least : 1 ≤ k
   pub most : k ≤ length os
-  pub step-most : g .step ≤ mostStep
-  pub last : g .first + length os - 1 ≤ mostExact
+  pub step-most : D ≤ mostStep
+  pub last : first + length os - 1 ≤ mostExact
 
 -- an answer whose refusal, if it is one, has a number
 abbrev pub Numbered : MarkAnswer → Type 0

@@ -1,8 +1,7 @@
 // A row's mark and point for a chart, as doubles. Each is a whole number below 2^53, so nothing is rounded.
-// Units: outflow in thousandths of a cfs, storage in thousandths of a cubic foot, stage in thousandths of a ft; half is half
+// Units: step in seconds, outflow in thousandths of a cfs, storage in thousandths of a cubic foot, stage in thousandths of a ft; half is half
 // the step, in seconds; rows count from 1.
 use refusals::Refusal;
-use subarea::Setup;
 ghost use mathlib.Core.Path.{_≡_};
 ghost use Prim.Native.Nat.{_≤_};
 ghost use lib.ListN.{length};
@@ -83,13 +82,13 @@ fn mark_of(pond: &[u64], half: u64, peak: u64, row: u64, outflow: u64, storage: 
     Mark::Outflow(flow)
 }
 
-fn point_of(setup: Setup, row: u64, outflow: u64) -> Point
-    requires { ⌜ PointOk setup row outflow ⌝ }
-    ensures { λ r. ⌜ r ≡ pointAt setup row outflow ⌝ }
+fn point_of(step: u64, first: u64, row: u64, outflow: u64) -> Point
+    requires { ⌜ PointOk step first row outflow ⌝ }
+    ensures { λ r. ⌜ r ≡ pointAt step first row outflow ⌝ }
 {
     let earlier = row - 1;
-    let number = double(setup.first + earlier);
-    let seconds = double(row * setup.step);
+    let number = double(first + earlier);
+    let seconds = double(row * step);
     let flow = double(outflow);
     Point {
         row: number,
@@ -99,15 +98,22 @@ fn point_of(setup: Setup, row: u64, outflow: u64) -> Point
 }
 
 // The mark and the point of a row that nothing refuses.
-fn mark_and_point(setup: Setup, pond: &[u64], outflow: &[u64], storage: &[u64], row: u64) -> Marked
-    requires { ⌜ MarkOk setup (now pond) (now outflow) (now storage) row ⌝ }
-    ensures { λ r. ⌜ r ≡ markedOf setup (now (pond .entry)) (now (outflow .entry)) (now (storage .entry)) row ⌝ }
+fn mark_and_point(
+    step: u64,
+    first: u64,
+    pond: &[u64],
+    outflow: &[u64],
+    storage: &[u64],
+    row: u64,
+) -> Marked
+    requires { ⌜ MarkOk step first (now pond) (now outflow) (now storage) row ⌝ }
+    ensures { λ r. ⌜ r ≡ markedOf step first (now (pond .entry)) (now (outflow .entry)) (now (storage .entry)) row ⌝ }
 {
     let i = (row - 1) as usize;
     let own = outflow[i];
     let peak = peak_row(outflow);
-    let mark = mark_of(pond, setup.step / 2, peak, row, own, storage[i]);
-    let point = point_of(setup, row, own);
+    let mark = mark_of(pond, step / 2, peak, row, own, storage[i]);
+    let point = point_of(step, first, row, own);
     Marked { mark, point }
 }
 
@@ -119,58 +125,57 @@ fn row_check(row: u64, m: usize) -> Refusal
 }
 
 // Refusals 1, 2 and 4.
-fn mark_checks(setup: Setup, inflow: &[u64], outflow: &[u64], storage: &[u64]) -> Refusal
-    ensures { λ r. ⌜ r ≡ firstRefusal (markLines setup (found inflow outflow storage)) ⌝ }
+fn mark_checks(step: u64, first: u64, inflow: &[u64], outflow: &[u64], storage: &[u64]) -> Refusal
+    ensures { λ r. ⌜ r ≡ firstRefusal (markLines step first (found inflow outflow storage)) ⌝ }
 {
-    checks::frame_checks(setup, inflow, outflow, storage).or(checks::last_check(
-        setup,
-        inflow.len(),
-    ))
+    checks::frame_checks(step, inflow, outflow, storage).or(checks::last_check(first, inflow.len()))
 }
 
 // The first refusal, in the order 1, 2, 4, 12, 13, 18, 17.
 fn mark_refusal(
-    setup: Setup,
+    step: u64,
+    first: u64,
     pond: &[u64],
     inflow: &[u64],
     outflow: &[u64],
     storage: &[u64],
     row: u64,
 ) -> Refusal
-    ensures { λ r. ⌜ r ≡ markRefusal setup (now (pond .entry)) (found inflow outflow storage) row ⌝ }
+    ensures { λ r. ⌜ r ≡ markRefusal step first (now (pond .entry)) (found inflow outflow storage) row ⌝ }
 {
     // All rows are held against the pond, whatever row is asked: the peak is chosen among all.
-    let lists = mark_checks(setup, inflow, outflow, storage);
+    let lists = mark_checks(step, first, inflow, outflow, storage);
     if lists.number != 0 {
         return lists;
     }
-    let table = checks::pond_checks(setup, pond);
+    let table = checks::pond_checks(step / 2, pond);
     if table.number != 0 {
         return table;
     }
     table
         .or(row_check(row, outflow.len()))
-        .or(checks::forged_check(setup, pond, outflow, storage))
+        .or(checks::forged_check(step / 2, pond, outflow, storage))
 }
 
 // The mark of a row: refused by number and place, or done with its mark and its point. Of the inflow list only the length is
 // read.
 pub fn mark_row(
-    setup: Setup,
+    step: u64,
+    first: u64,
     pond: &[u64],
     inflow: &[u64],
     outflow: &[u64],
     storage: &[u64],
     row: u64,
 ) -> MarkAnswer
-    ensures { λ r. ⌜ r ≡ markAnswer setup (now (pond .entry)) (found inflow outflow storage) row ⌝ }
-    ensures { λ r. ⌜ markRefusalIn r ≡ markRefusal setup (now (pond .entry)) (found inflow outflow storage) row ⌝ }
-    ensures { λ r. ⌜ markKindIn r ≡ markKind setup (now (pond .entry)) (found inflow outflow storage) row ⌝ }
-    ensures { λ r. ⌜ markValuesIn r ≡ markValues setup (now (pond .entry)) (found inflow outflow storage) row ⌝ }
+    ensures { λ r. ⌜ r ≡ markAnswer step first (now (pond .entry)) (found inflow outflow storage) row ⌝ }
+    ensures { λ r. ⌜ markRefusalIn r ≡ markRefusal step first (now (pond .entry)) (found inflow outflow storage) row ⌝ }
+    ensures { λ r. ⌜ markKindIn r ≡ markKind step first (now (pond .entry)) (found inflow outflow storage) row ⌝ }
+    ensures { λ r. ⌜ markValuesIn r ≡ markValues step first (now (pond .entry)) (found inflow outflow storage) row ⌝ }
 {
-    let v = mark_refusal(setup, pond, inflow, outflow, storage, row);
+    let v = mark_refusal(step, first, pond, inflow, outflow, storage, row);
     if v.number != 0 {
         return MarkAnswer::Refused(v);
     }
-    MarkAnswer::Done(mark_and_point(setup, pond, outflow, storage, row))
+    MarkAnswer::Done(mark_and_point(step, first, pond, outflow, storage, row))
 }

@@ -89,7 +89,21 @@ pub both-pass : (l k : List Refusal) → AllPass (l ++ k) → AllPass l × AllPa
 both-pass [] k p = (tt, p)
 both-pass (v ∷ vs) k p = let r = both-pass vs k (p .1) in ((p .0, r .0), r .1)
 
--- and it is its last line
+-- two such lists, one after the other, are one
+pub pass-both : (l k : List Refusal) → AllPass l → AllPass k → AllPass (l ++ k)
+pass-both [] k p q = q
+pass-both (v ∷ vs) k p q = (p .0, pass-both vs k (p .1) q)
+
+pass-after : (v : Refusal) (l : List Refusal) → v .number ≡ 0 → AllPass l → firstAfter v l .number ≡ 0
+unfolding firstAfter
+pass-after v [] z p = z
+pass-after v (w ∷ ws) z p = pass-after (orElse v w) ws (ap (λ (u : Refusal). u .number) (or-second v w z) ∙ p .0) (p .1)
+
+-- and one refuses nothing
+pub pass-none : (l : List Refusal) → AllPass l → firstRefusal l .number ≡ 0
+pass-none l p = pass-after none l refl p
+
+-- its first refusal is its last line
 pub last-is : (l : List Refusal) (w : Refusal) → firstRefusal (l ++ (w ∷ [])) .number ≡ 0 → firstRefusal (l ++ (w ∷ [])) ≡ w
 unfolding firstAfter
 last-is l w e =

@@ -13,18 +13,18 @@ use Rattle.rows.specs.Routing.{overRow}
 use Rattle.rows.specs.Figures.{at, releaseAt}
 use Rattle.rows.proofs.Reached.{balance}
 use Rattle.rows.proofs.Told.{over-none}
-use Rattle.checks.specs.Needs.{RisesOk, SiteOk}
+use Rattle.checks.specs.Needs.{RuleOk, RisesOk, SheetsOk, SiteOk}
 use Rattle.refusals.specs.Refusals.{passes, refuse, none, AllPass, First}
 use Rattle.study.specs.declared.StudyAnswer.{StudyAnswer}
 use Rattle.study.specs.declared.StudyAnswer.the-variants.{Refused, Done}
 use Rattle.checks.specs.Site.{Site, Rows, asked}
 use Rattle.study.specs.Study.{overCheck, overOf, studyLines, studyRefusal, studyAnswer, studyRows, studyFigures, studyRefusalIn, studyValues, studyValuesIn, noFigures}
-use Rattle.checks.specs.Order.{checkLines}
+use Rattle.checks.specs.Order.{runLines, listLines, pondLines, inflowLines, checkLines}
 use Rattle.inflow.specs.Inflow.{inflowAt, inflowOf}
 use Rattle.subarea.specs.Records.{halfOf}
 use Rattle.refusals.proofs.Orders.{all-pass, both-pass, last-is, first-there}
 use Rattle.inflow.proofs.Inflows.{rows-length}
-use Rattle.checks.proofs.Ready.{site-ok}
+use Rattle.checks.proofs.Ready.{site-ok, sheets-ok}
 
 over-passes : (h : ℕ) (p vs : List ℕ) → overCheck h p vs .number ≡ 0 → (overCheck h p vs ≡ none) × (overRow h p empty vs ≡ 0)
 unfolding overCheck
@@ -60,6 +60,16 @@ module _ (x : Site) (l : Rows) where
     -- every row's number is below 9007199254740992
     pub row-numbers : (k : ℕ) → k < asked l → x .setup .first + k < 9007199254740992
     row-numbers k h = omega (arith, accepted .basin .run .last)
+
+    -- its sheet rule is 1 or 2, and no sheet of any subarea runs farther than that one lets it
+    pub study-rule : RuleOk (x .setup .rule)
+    study-rule = accepted .basin .run .rule
+
+    pub study-sheets : SheetsOk (x .setup) (x .subareas)
+    study-sheets =
+        let lists = listLines (x .setup) (x .subareas) in
+        let ponds = pondLines (halfOf (x .setup)) (x .pond) in
+        sheets-ok (x .setup) (x .subareas) (both-pass (runLines x l) lists (both-pass (inflowLines x l) ponds (both-pass (checkLines x l) (overOf x l ∷ []) study-passes .0) .0) .1)
 
     -- no entry of its rain is more than 4,000 above the one before
     pub study-rises : RisesOk (x .rain)

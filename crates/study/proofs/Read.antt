@@ -11,7 +11,7 @@ use Rattle.laws.proofs.Scans.{scan-same}
 use Rattle.laws.proofs.Sums.{sum-same}
 use Rattle.curve.specs.CurveNumbers.{mostPatches, totalArea, composite, patchesIn, classArea, patchesGood}
 use Rattle.curve.specs.declared.Classes.{Classes}
-use Rattle.travel.specs.TravelTime.{mostSegments, timeToPeak, segmentsGood}
+use Rattle.travel.specs.TravelTime.{mostSegments, timeToPeak, sheetLimit, segmentsGood}
 use Rattle.travel.proofs.Spare.{segments-same, concentration-same}
 use Rattle.hydrograph.specs.InflowRows.{part, concentrationGood, peakGood, weightsGood}
 use Rattle.pond.specs.PondRows.{empty}
@@ -22,7 +22,7 @@ use Rattle.refusals.specs.Refusals.{unless, firstOf, firstRefusal, after}
 use Rattle.subarea.specs.declared.Setup.{Setup}
 use Rattle.subarea.specs.Records.{halfOf, width, recordsIn, recordAt, patchCount, patches, segmentCount, segments, areaOf, curveOf, timeOf, peakOf, patchesPass, segmentsPass, SameRecord, SameRead}
 use Rattle.checks.specs.Site.{Site, Rows, asked, withSubareas}
-use Rattle.checks.specs.Order.{ListTest, each, total, overList, listTests, listLines, lastGood, recordsGood, frameLines, rainLines, runLines, pondLines}
+use Rattle.checks.specs.Order.{ListTest, each, total, overList, listTests, listLines, recordsGood, foreLines, runLines, pondLines}
 use Rattle.inflow.specs.Inflow.{partOf, inflowAt, inflowRows, inflowOf}
 use Rattle.inflow.proofs.Inflows.{rows-same}
 use Rattle.study.specs.declared.StudyAnswer.the-variants.{Refused, Done}
@@ -42,11 +42,11 @@ module _ (r q : List ℕ) (same : SameRecord r q) where
       ap (λ (n : ℕ). within 1 n mostPatches && patchesGood (patches r)) (same .patch-count)
       ∙ ap (λ (p : List ℕ). within 1 (patchCount q) mostPatches && patchesGood p) (same .patched)
 
-  segments-read : segmentsPass r ≡ segmentsPass q
+  segments-read : (rule : ℕ) → segmentsPass rule r ≡ segmentsPass rule q
   unfolding segmentsPass
-  segments-read =
-      ap (λ (n : ℕ). within 1 n mostSegments && segmentsGood (segments r)) (same .segment-count)
-      ∙ ap (λ (good : Bool). within 1 (segmentCount q) mostSegments && good) (segments-same (segments r) (segments q) (same .routed))
+  segments-read rule =
+      ap (λ (n : ℕ). within 1 n mostSegments && segmentsGood (sheetLimit rule) (segments r)) (same .segment-count)
+      ∙ ap (λ (good : Bool). within 1 (segmentCount q) mostSegments && good) (segments-same (segments r) (segments q) (same .routed) (sheetLimit rule))
 
   pub part-read : (g : Setup) (rain : List ℕ) (k : ℕ) → partOf g rain r k ≡ partOf g rain q k
   part-read g rain k =
@@ -66,7 +66,7 @@ AllRead (t ∷ ts) = Reads t × AllRead ts
 tests-read : (g : Setup) → AllRead (listTests g)
 tests-read g =
     let timed : (test : ℕ → Bool) (r q : List ℕ) → SameRecord r q → test (timeOf r) ≡ test (timeOf q) = λ test r q d. ap test (time-read r q d) in
-    (patches-read, (segments-read, (tt, (timed concentrationGood, (timed (peakGood (g .step)), (timed (weightsGood (g .step)), tt))))))
+    (patches-read, ((λ r q d. segments-read r q d (g .rule)), (tt, (timed concentrationGood, (timed (peakGood (g .step)), (timed (weightsGood (g .step)), tt))))))
 
 module _ (s u : List ℕ) (same : SameRead s u) where
   pub count-read : recordsIn s ≡ recordsIn u
@@ -120,7 +120,7 @@ module _ (x : Site) (l : Rows) (u : List ℕ) (same : SameRead (x .subareas) u) 
   -- 1 to 5
   pub run-read : runLines x l ≡ runLines (withSubareas x u) l
   run-read =
-      ap (λ (b : Bool). frameLines (x .setup) l ++ rainLines (x .rain) (asked l) ++ (unless 4 (lastGood (x .setup) (asked l)) ∷ unless 5 b ∷ [])) (records-read (x .subareas) u same)
+      ap (λ (b : Bool). foreLines (x .setup) (x .rain) l ++ (unless 5 b ∷ [])) (records-read (x .subareas) u same)
 
   rows-read : inflowOf x l ≡ inflowOf (withSubareas x u) l
   rows-read = inflow-read (x .subareas) u same (x .setup) (x .rain) (asked l)
@@ -128,7 +128,7 @@ module _ (x : Site) (l : Rows) (u : List ℕ) (same : SameRead (x .subareas) u) 
   pub refusal-read : studyRefusal x l ≡ studyRefusal (withSubareas x u) l
   unfolding studyRefusal
   refusal-read =
-      let ponds = pondLines (x .setup) (x .pond) in
+      let ponds = pondLines h (x .pond) in
       ap (λ (run : List Refusal). firstRefusal ((run ++ listLines (x .setup) (x .subareas)) ++ ponds ++ (overCheck h (x .pond) (inflowOf x l) ∷ []))) run-read
       ∙ ap (λ (list : List Refusal). firstRefusal ((runLines (withSubareas x u) l ++ list) ++ ponds ++ (overCheck h (x .pond) (inflowOf x l) ∷ []))) (lines-read (x .subareas) u same (x .setup))
       ∙ ap (λ (vs : List ℕ). firstRefusal ((runLines (withSubareas x u) l ++ listLines (x .setup) u) ++ ponds ++ (overCheck h (x .pond) vs ∷ []))) rows-read

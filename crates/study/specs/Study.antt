@@ -62,7 +62,7 @@ overCheck h p vs = pick (eqb (overRow h p empty vs) 0) none (refuse 14 (overRow 
 abbrev pub overOf : Site → Rows → Refusal
 overOf x l = overCheck (halfOf (x .setup)) (x .pond) (inflowOf x l)
 
--- document 01's order of a study, 1 to 14 with 19 after 3, line by line, and the first that refuses
+-- document 01's order of a study, 1 to 14 with 20 after 2 and 19 after 3, line by line, and the first that refuses
 abbrev pub studyLines : Site → Rows → List Refusal
 studyLines x l = checkLines x l ++ (overOf x l ∷ [])
 

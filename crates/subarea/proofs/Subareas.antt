@@ -10,11 +10,11 @@ use Rattle.laws.proofs.Tests.{Kept, kept, both-left, both-right}
 use Rattle.curve.specs.CurveNumbers.{patchesGood}
 use Rattle.curve.specs.Needs.{PatchesOk}
 use Rattle.curve.proofs.Limits.{patches-ok}
-use Rattle.travel.specs.TravelTime.{segmentsGood}
-use Rattle.travel.specs.Needs.{SegmentsOk}
-use Rattle.travel.proofs.Limits.{segments-ok}
+use Rattle.travel.specs.TravelTime.{mostSegments, sheetLimit, segmentsGood}
+use Rattle.travel.specs.Needs.{SheetsWithin}
+use Rattle.travel.proofs.Limits.{limit-far, segments-ok, segments-short}
 use Rattle.subarea.specs.Records.{width, recordsIn, recordAt, patchCount, patches, segmentCount, segments, patchesPass, segmentsPass}
-use Rattle.subarea.specs.Needs.{RecordsOk}
+use Rattle.subarea.specs.Needs.{RecordsOk, RoutedOk}
 
 -- a part from a on that is k long, as the code has it
 pub part-is : (a k : ℕ) (l : List ℕ) → take (a + k - a) (drop a l) ≡ take k (drop a l)
@@ -30,14 +30,19 @@ module _ (r : List ℕ) where
   unfolding patchesPass
   patches-fit e = patches-ok (patches r) (both-right (within 1 (patchCount r) 8) (patchesGood (patches r)) e)
 
-  -- and so are its segments
-  pub segments-few : segmentsPass r ≡ true → Kept 1 (segmentCount r) 6
+  -- and so are its segments, whatever the sheet rule
+  pub segments-fit : (rule : ℕ) → segmentsPass rule r ≡ true → RoutedOk r
   unfolding segmentsPass
-  segments-few e = kept 1 (segmentCount r) 6 (both-left (within 1 (segmentCount r) 6) (segmentsGood (segments r)) e)
+  segments-fit rule e =
+      let few = within 1 (segmentCount r) mostSegments in
+      let good = segmentsGood (sheetLimit rule) (segments r) in
+      let count = kept 1 (segmentCount r) mostSegments (both-left few good e) in
+      record { least = count .low; most = count .high; fits = segments-ok (sheetLimit rule) (segments r) (limit-far rule) (both-right few good e) }
 
-  pub segments-fit : segmentsPass r ≡ true → SegmentsOk (segments r)
+  -- and its sheet flow runs no farther than the rule lets it
+  pub sheets-fit : (rule : ℕ) → segmentsPass rule r ≡ true → SheetsWithin (sheetLimit rule) (segments r)
   unfolding segmentsPass
-  segments-fit e = segments-ok (segments r) (both-right (within 1 (segmentCount r) 6) (segmentsGood (segments r)) e)
+  sheets-fit rule e = segments-short (sheetLimit rule) (segments r) (both-right (within 1 (segmentCount r) mostSegments) (segmentsGood (sheetLimit rule) (segments r)) e)
 
 module _ (s : List ℕ) (ok : RecordsOk s) where
   -- a record of the list is whole

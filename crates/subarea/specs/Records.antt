@@ -6,7 +6,7 @@ use Prim.Native.Nat.{ℕ, _+_, _*_, _/_, _<_}
 use lib.ListN.{length, getD, take, drop}
 use Rattle.laws.specs.Within.{within}
 use Rattle.curve.specs.CurveNumbers.{patchWidth, mostPatches, totalArea, composite, patchesGood}
-use Rattle.travel.specs.TravelTime.{segmentWidth, mostSegments, concentration, timeToPeak, segmentsGood, SameSegments}
+use Rattle.travel.specs.TravelTime.{segmentWidth, mostSegments, concentration, timeToPeak, sheetLimit, segmentsGood, SameSegments}
 use Rattle.subarea.specs.declared.Setup.{Setup}
 
 -- h, half the step
@@ -64,9 +64,9 @@ peakOf g r = timeToPeak (g .step) (timeOf r)
 unfoldable pub patchesPass : List ℕ → Bool
 patchesPass r = within 1 (patchCount r) mostPatches && patchesGood (patches r)
 
--- refusal 7: segment count and segments within their limits
-unfoldable pub segmentsPass : List ℕ → Bool
-segmentsPass r = within 1 (segmentCount r) mostSegments && segmentsGood (segments r)
+-- refusal 7: segment count and segments within their limits, by the sheet rule
+unfoldable pub segmentsPass : ℕ → List ℕ → Bool
+segmentsPass rule r = within 1 (segmentCount r) mostSegments && segmentsGood (sheetLimit rule) (segments r)
 
 -- two records of which the same is read: their counts, and what stands within them but for spare numbers of segments
 pub record SameRecord (r q : List ℕ) : Type 0 where

@@ -5,11 +5,13 @@ ghost use mathlib.Core.Bool.{true};
 ghost use lib.ListN.{length};
 ghost use Rattle.curve.specs.CurveNumbers.{groundOf, classesOf};
 ghost use Rattle.subarea.specs.Records.{width, patches, timeOf, peakOf, patchesPass, segmentsPass};
+ghost use Rattle.subarea.specs.Needs.{RoutedOk};
 
-// The numbers of a run: the step in seconds and the first row's number.
+// The numbers of a run: the step in seconds, the first row's number and the sheet rule, travel::TR55 or travel::WINTR55.
 pub struct Setup {
     pub step: u64,
     pub first: u64,
+    pub rule: u64,
 }
 
 // A record: the patch count, MOST_PATCHES patches, the segment count, MOST_SEGMENTS segments.
@@ -35,10 +37,10 @@ pub fn patches_pass(own: &[u64]) -> bool
     curve::patches_good(&own[a..e])
 }
 
-// Are its segment count and its segments within their limits?
-pub fn segments_pass(own: &[u64]) -> bool
+// Are its segment count and its segments within their limits, by a sheet rule?
+pub fn segments_pass(rule: u64, own: &[u64]) -> bool
     requires { ⌜ length (now own) ≡ width ⌝ }
-    ensures { λ r. ⌜ r ≡ segmentsPass (now (own .entry)) ⌝ }
+    ensures { λ r. ⌜ r ≡ segmentsPass rule (now (own .entry)) ⌝ }
 {
     let n = own[SEGMENT_COUNT];
     if !laws::within(1, n, travel::MOST_SEGMENTS as u64) {
@@ -46,7 +48,7 @@ pub fn segments_pass(own: &[u64]) -> bool
     }
     let a = SEGMENTS;
     let e = a + travel::SEGMENT_WIDTH * (n as usize);
-    travel::segments_good(&own[a..e])
+    travel::segments_good(travel::sheet_limit(rule), &own[a..e])
 }
 
 // Its area and its curve number.
@@ -71,7 +73,7 @@ pub fn classes(own: &[u64]) -> curve::Classes
 
 // Its time of concentration.
 pub fn time(own: &[u64]) -> u64
-    requires { ⌜ (length (now own) ≡ width) × (segmentsPass (now own) ≡ true) ⌝ }
+    requires { ⌜ (length (now own) ≡ width) × RoutedOk (now own) ⌝ }
     ensures { λ r. ⌜ r ≡ timeOf (now (own .entry)) ⌝ }
 {
     let a = SEGMENTS;
@@ -81,7 +83,7 @@ pub fn time(own: &[u64]) -> u64
 
 // Its time to peak.
 pub fn peak(setup: Setup, own: &[u64]) -> u64
-    requires { ⌜ (length (now own) ≡ width) × (segmentsPass (now own) ≡ true) ⌝ }
+    requires { ⌜ (length (now own) ≡ width) × RoutedOk (now own) ⌝ }
     ensures { λ r. ⌜ r ≡ peakOf setup (now (own .entry)) ⌝ }
 {
     travel::time_to_peak(setup.step, time(own))

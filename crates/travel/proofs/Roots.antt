@@ -6,8 +6,8 @@ use lib.Dec.{T, ltb, lit<, lit≤}
 use native.Mathlib.Nat.{le-refl, lt-of-le-of-lt, lt-of-lt-of-le, mul-le-mul, pow-le-pow-left}
 use Rattle.wide.specs.Limbs.{room, Factor}
 use Rattle.roots.specs.Largest.{mostPower}
-use Rattle.travel.specs.TravelTime.{mostSheet, sheet, channel}
-use Rattle.travel.specs.Needs.{SheetOk, ChannelOk, mostSegmentTime}
+use Rattle.travel.specs.TravelTime.{sheet, channel}
+use Rattle.travel.specs.Needs.{farthestSheet, SheetOk, ChannelOk, mostSegmentTime}
 use Rattle.roots.proofs.Powers.{powers-is, powers-most, powers-found}
 
 -- a number at most one that fits the limbs fits them
@@ -24,7 +24,7 @@ pub span-factor : {n L : ℕ} → 1 ≤ n → n ≤ 999 → 1 ≤ L → L ≤ 40
 span-factor a b c d = record { least = mul-le-mul a c; most = lt-of-le-of-lt (mul-le-mul b d) (lit< tt) }
 
 module _ {L n P s : ℕ} (ok : SheetOk L n P s) where
-  pub sheet-top : 252 ^ 10 * (n * L) ^ 8 ≤ 252 ^ 10 * (999 * mostSheet) ^ 8
+  pub sheet-top : 252 ^ 10 * (n * L) ^ 8 ≤ 252 ^ 10 * (999 * farthestSheet) ^ 8
   sheet-top = mul-le-mul (le-refl (252 ^ 10)) (pow-le-pow-left (mul-le-mul (ok .n-most) (ok .length-most)) 8)
 
   pub sheet-bottom : P ^ 5 * s ^ 4 * 1000 ≤ 30000 ^ 5 * 10000 ^ 4 * 1000
@@ -35,7 +35,7 @@ module _ {L n P s : ℕ} (ok : SheetOk L n P s) where
 
   -- 2^23 is past the root
   pub sheet-past : 252 ^ 10 * (n * L) ^ 8 < (mostPower + 1) ^ 10 * (P ^ 5 * s ^ 4 * 1000)
-  sheet-past = apart (252 ^ 10 * (999 * mostSheet) ^ 8) ((mostPower + 1) ^ 10 * 1000) sheet-top (mul-le-mul (le-refl ((mostPower + 1) ^ 10)) sheet-least) tt
+  sheet-past = apart (252 ^ 10 * (999 * farthestSheet) ^ 8) ((mostPower + 1) ^ 10 * 1000) sheet-top (mul-le-mul (le-refl ((mostPower + 1) ^ 10)) sheet-least) tt
 
   -- and there the left side still fits
   pub sheet-fits : (mostPower + 1) ^ 10 * (P ^ 5 * s ^ 4 * 1000) < room
@@ -46,12 +46,12 @@ module _ {L n P s : ℕ} (ok : SheetOk L n P s) where
   unfolding sheet
   sheet-is = powers-is 10 (P ^ 5 * s ^ 4 * 1000) (252 ^ 10 * (n * L) ^ 8) mostPower (lit≤ tt) sheet-past
 
-  -- it is at most that of the roughest and longest at the least rain and slope
-  pub sheet-most : sheet L n P s ≤ 3039134
+  -- it is at most that of the slowest channel
+  pub sheet-most : sheet L n P s ≤ mostSegmentTime
   unfolding sheet
   sheet-most =
-      powers-most 10 (P ^ 5 * s ^ 4 * 1000) (252 ^ 10 * (n * L) ^ 8) mostPower 3039134 (lit≤ tt)
-      (apart (252 ^ 10 * (999 * mostSheet) ^ 8) (3039135 ^ 10 * 1000) sheet-top (mul-le-mul (le-refl (3039135 ^ 10)) sheet-least) tt)
+      powers-most 10 (P ^ 5 * s ^ 4 * 1000) (252 ^ 10 * (n * L) ^ 8) mostPower mostSegmentTime (lit≤ tt)
+      (apart (252 ^ 10 * (999 * farthestSheet) ^ 8) ((mostSegmentTime + 1) ^ 10 * 1000) sheet-top (mul-le-mul (le-refl ((mostSegmentTime + 1) ^ 10)) sheet-least) tt)
 
 module _ {L n r s : ℕ} (ok : ChannelOk L n r s) where
   pub channel-top : (n * L) ^ 6 * 10 ^ 14 ≤ (999 * 4000) ^ 6 * 10 ^ 14

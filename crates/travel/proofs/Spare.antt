@@ -20,9 +20,9 @@ pick-same true s x y h = refl
 pick-same false s x y h = h refl
 
 -- the limits and the time of a kind that has spare numbers, whatever they are
-within-spare : (k L a b c d e : ℕ) → within 1 k 3 ≡ true → segmentWithin k L a b c ≡ segmentWithin k L a d e
+within-spare : (M k L a b c d e : ℕ) → within 1 k 3 ≡ true → segmentWithin M k L a b c ≡ segmentWithin M k L a d e
 unfolding segmentWithin
-within-spare k L a b c d e h = rw h
+within-spare M k L a b c d e h = rw h
 
 time-spare : (k L a b c d e : ℕ) → within 1 k 3 ≡ true → segmentTime k L a b c ≡ segmentTime k L a d e
 unfolding segmentTime
@@ -41,16 +41,16 @@ read-same f spare g q i s = go (within 1 (kind g i) 3) refl
 
 module _ (g q : List ℕ) (same : SameSegments g q) where
   -- a segment's test and its time
-  good-same : (i : ℕ) → i < segmentsIn g → segmentGood g i ≡ segmentGood q i
-  good-same i l = cc (same .each i l .first, read-same segmentWithin within-spare g q i (same .each i l))
+  good-same : (M i : ℕ) → i < segmentsIn g → segmentGood M g i ≡ segmentGood M q i
+  good-same M i l = cc (same .each i l .first, read-same (segmentWithin M) (within-spare M) g q i (same .each i l))
 
   time-same : (i : ℕ) → i < segmentsIn g → segmentTimeAt g i ≡ segmentTimeAt q i
   time-same i l = read-same segmentTime time-spare g q i (same .each i l)
 
   -- those of the list
-  pub segments-same : segmentsGood g ≡ segmentsGood q
+  pub segments-same : (M : ℕ) → segmentsGood M g ≡ segmentsGood M q
   unfolding segmentsGood flatGood
-  segments-same = rw (scan-same (segmentGood g) (segmentGood q) (segmentsIn g) 0 (λ k lo l. good-same k (omega (arith, l))), same .long)
+  segments-same M = rw (scan-same (segmentGood M g) (segmentGood M q) (segmentsIn g) 0 (λ k lo l. good-same M k (omega (arith, l))), same .long)
 
   pub concentration-same : concentration g ≡ concentration q
   unfolding concentration

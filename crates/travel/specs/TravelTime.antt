@@ -82,25 +82,28 @@ concentration g = max 360 (sumTo (segmentTimeAt g) (segmentsIn g))
 unfoldable pub timeToPeak : ℕ → ℕ → ℕ
 timeToPeak D tc = 3 * tc / 5 + D / 2
 
--- sheet flow runs at most so far, in ft
-abbrev pub mostSheet : ℕ
-mostSheet = 300
+-- the sheet rule that a study names (Q-4) is 1, TR-55 of 1986, or 2, WinTR-55 and NEH 630 chapter 15; sheet flow runs at most 300 ft by 1, and 100 by 2
+unfoldable pub ruleGood : ℕ → Bool
+ruleGood rule = within 1 rule 2
 
--- the limits of kinds 1, 2 and 3, of kind 4 and of kind 5
+unfoldable pub sheetLimit : ℕ → ℕ
+sheetLimit rule = pick (eqb rule 1) 300 100
+
+-- the limits of kinds 1, 2 and 3, of kind 4, where M is how far sheet flow may run, and of kind 5
 abbrev pub ratedWithin : ℕ → ℕ → Bool
 ratedWithin L r = within 1 L 4000 && within 1 r 10000
 
-abbrev pub sheetWithin : ℕ → ℕ → ℕ → ℕ → Bool
-sheetWithin L n P s = (within 1 L mostSheet && within 1 n 999) && (within 1 P 30000 && within 1 s 10000)
+abbrev pub sheetWithin : ℕ → ℕ → ℕ → ℕ → ℕ → Bool
+sheetWithin M L n P s = (within 1 L M && within 1 n 999) && (within 1 P 30000 && within 1 s 10000)
 
 abbrev pub channelWithin : ℕ → ℕ → ℕ → ℕ → Bool
 channelWithin L n r s = (within 1 L 4000 && within 1 n 999) && (within 1 r 10000 && within 1 s 10000)
 
 -- the limits of a segment, by its kind
-unfoldable pub segmentWithin : ℕ → ℕ → ℕ → ℕ → ℕ → Bool
-segmentWithin k L a b c =
+unfoldable pub segmentWithin : ℕ → ℕ → ℕ → ℕ → ℕ → ℕ → Bool
+segmentWithin M k L a b c =
     pick (within 1 k 3) (ratedWithin L a)
-    (pick (eqb k 4) (sheetWithin L a b c)
+    (pick (eqb k 4) (sheetWithin M L a b c)
     (pick (eqb k 5) (channelWithin L a b c)
     false))
 
@@ -108,13 +111,13 @@ segmentWithin k L a b c =
 unfoldable pub placeWithin : ℕ → ℕ → Bool
 placeWithin k i = pick (eqb k 4) (eqb i 0) true
 
-abbrev pub segmentGood : List ℕ → ℕ → Bool
-segmentGood g i =
-    placeWithin (kind g i) i && segmentWithin (kind g i) (numberOf g i 1) (numberOf g i 2) (numberOf g i 3) (numberOf g i 4)
+abbrev pub segmentGood : ℕ → List ℕ → ℕ → Bool
+segmentGood M g i =
+    placeWithin (kind g i) i && segmentWithin M (kind g i) (numberOf g i 1) (numberOf g i 2) (numberOf g i 3) (numberOf g i 4)
 
 -- 1 to 6 whole segments, each within its limits
-unfoldable pub segmentsGood : List ℕ → Bool
-segmentsGood g = flatGood segmentWidth mostSegments (segmentGood g) g
+unfoldable pub segmentsGood : ℕ → List ℕ → Bool
+segmentsGood M g = flatGood segmentWidth mostSegments (segmentGood M g) g
 
 -- segment i of two lists of which the same is read: the fourth and the fifth number of kinds 1, 2 and 3 are spare
 pub record SameSegment (g q : List ℕ) (i : ℕ) : Type 0 where

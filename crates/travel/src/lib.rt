@@ -4,7 +4,7 @@ mod manning;
 ghost use mathlib.Core.Path.{_≡_};
 ghost use Prim.Native.Nat.{_<_};
 ghost use Rattle.laws.specs.Scan.{scan};
-ghost use Rattle.travel.specs.TravelTime.{segmentWidth, segmentsIn, numberOf, shallow, segmentTime, segmentTimeAt, concentration, timeToPeak, ratedWithin, sheetWithin, channelWithin, segmentWithin, placeWithin, segmentGood, segmentsGood};
+ghost use Rattle.travel.specs.TravelTime.{segmentWidth, segmentsIn, numberOf, shallow, segmentTime, segmentTimeAt, concentration, timeToPeak, ruleGood, sheetLimit, ratedWithin, sheetWithin, channelWithin, segmentWithin, placeWithin, segmentGood, segmentsGood};
 ghost use Rattle.travel.specs.Needs.{ShallowOk, SegmentOk, SegmentsOk, TimeOk};
 
 // The numbers of a segment in a list, and the segments that a subarea can have.
@@ -28,8 +28,14 @@ const UNPAVED_FACTOR: u64 = 161345;
 
 const PAVED_FACTOR: u64 = 203282;
 
-// Sheet flow runs at most so far, in ft.
-const MOST_SHEET: u64 = 300;
+// Sheet rules, and how far each lets sheet flow run, in ft: TR-55 of 1986; WinTR-55 and NEH 630 chapter 15.
+pub const TR55: u64 = 1;
+
+pub const WINTR55: u64 = 2;
+
+const TR55_SHEET: u64 = 300;
+
+const WINTR55_SHEET: u64 = 100;
 
 // Divided first: T^2 K^2 s would not fit 64 bits, and L^2 10^12 just does.
 fn shallow_time(constant: u64, length: u64, slope: u64) -> u64
@@ -67,6 +73,24 @@ fn number_at(segments: &[u64], i: usize, j: usize) -> u64
     segments[SEGMENT_WIDTH * i + j]
 }
 
+// Is there such a sheet rule?
+pub fn rule_good(rule: u64) -> bool
+    ensures { λ r. ⌜ r ≡ ruleGood rule ⌝ }
+{
+    laws::within(TR55, rule, WINTR55)
+}
+
+// How far sheet flow may run, in ft. A number that is no rule is refused by 20 before this is asked, and counts as WINTR55.
+pub fn sheet_limit(rule: u64) -> u64
+    ensures { λ r. ⌜ r ≡ sheetLimit rule ⌝ }
+{
+    if rule == TR55 {
+        TR55_SHEET
+    } else {
+        WINTR55_SHEET
+    }
+}
+
 // Kinds 1, 2 and 3 are within their limits.
 fn rated_within(length: u64, rate: u64) -> bool
     ensures { λ r. ⌜ r ≡ ratedWithin length rate ⌝ }
@@ -74,11 +98,11 @@ fn rated_within(length: u64, rate: u64) -> bool
     laws::both(laws::within(1, length, 4000), laws::within(1, rate, 10000))
 }
 
-fn sheet_within(length: u64, n: u64, rain: u64, slope: u64) -> bool
-    ensures { λ r. ⌜ r ≡ sheetWithin length n rain slope ⌝ }
+fn sheet_within(limit: u64, length: u64, n: u64, rain: u64, slope: u64) -> bool
+    ensures { λ r. ⌜ r ≡ sheetWithin limit length n rain slope ⌝ }
 {
     laws::both(
-        laws::both(laws::within(1, length, MOST_SHEET), laws::within(1, n, 999)),
+        laws::both(laws::within(1, length, limit), laws::within(1, n, 999)),
         laws::both(laws::within(1, rain, 30000), laws::within(1, slope, 10000)),
     )
 }
@@ -95,15 +119,15 @@ fn channel_within(length: u64, n: u64, radius: u64, slope: u64) -> bool
     )
 }
 
-// A segment is within the limits of its kind.
-fn segment_within(kind: u64, length: u64, third: u64, fourth: u64, fifth: u64) -> bool
-    ensures { λ r. ⌜ r ≡ segmentWithin kind length third fourth fifth ⌝ }
+// A segment is within the limits of its kind; limit is how far sheet flow may run.
+fn segment_within(limit: u64, kind: u64, length: u64, third: u64, fourth: u64, fifth: u64) -> bool
+    ensures { λ r. ⌜ r ≡ segmentWithin limit kind length third fourth fifth ⌝ }
 {
     if laws::within(UNPAVED, kind, GIVEN) {
         return rated_within(length, third);
     }
     if kind == SHEET {
-        return sheet_within(length, third, fourth, fifth);
+        return sheet_within(limit, length, third, fourth, fifth);
     }
     if kind == CHANNEL {
         return channel_within(length, third, fourth, fifth);
@@ -122,12 +146,13 @@ fn place_within(kind: u64, i: usize) -> bool
 }
 
 // Segment i is within its limits.
-fn segment_good(segments: &[u64], i: usize) -> bool
+fn segment_good(limit: u64, segments: &[u64], i: usize) -> bool
     requires { ⌜ i < segmentsIn (now segments) ⌝ }
-    ensures { λ r. ⌜ r ≡ segmentGood (now (segments .entry)) i ⌝ }
+    ensures { λ r. ⌜ r ≡ segmentGood limit (now (segments .entry)) i ⌝ }
 {
     let kind = number_at(segments, i, 0);
     let own = segment_within(
+        limit,
         kind,
         number_at(segments, i, 1),
         number_at(segments, i, 2),
@@ -138,13 +163,13 @@ fn segment_good(segments: &[u64], i: usize) -> bool
 }
 
 // The first segment out of its limits, or the number of segments.
-fn first_bad(segments: &[u64]) -> usize
-    ensures { λ r. ⌜ r ≡ scan (segmentGood (now (segments .entry))) (segmentsIn (now (segments .entry))) 0 ⌝ }
+fn first_bad(limit: u64, segments: &[u64]) -> usize
+    ensures { λ r. ⌜ r ≡ scan (segmentGood limit (now (segments .entry))) (segmentsIn (now (segments .entry))) 0 ⌝ }
 {
     let n = segments.len() / SEGMENT_WIDTH;
     let mut i = 0;
     while i < n {
-        if !segment_good(segments, i) {
+        if !segment_good(limit, segments, i) {
             return i;
         }
         i += 1;
@@ -153,15 +178,15 @@ fn first_bad(segments: &[u64]) -> usize
 }
 
 // 1 to 6 whole segments, each within its limits: any numbers may stand in the list.
-pub fn segments_good(segments: &[u64]) -> bool
-    ensures { λ r. ⌜ r ≡ segmentsGood (now (segments .entry)) ⌝ }
+pub fn segments_good(limit: u64, segments: &[u64]) -> bool
+    ensures { λ r. ⌜ r ≡ segmentsGood limit (now (segments .entry)) ⌝ }
 {
     let n = segments.len() / SEGMENT_WIDTH;
     laws::both(
         segments.len() % SEGMENT_WIDTH == 0,
         laws::both(
             laws::within(1, n as u64, MOST_SEGMENTS as u64),
-            first_bad(segments) == n,
+            first_bad(limit, segments) == n,
         ),
     )
 }

@@ -1,3 +1,4 @@
 pub mod FiguresToCheck
 pub mod Peaks
+pub mod Rules
 pub mod Witness

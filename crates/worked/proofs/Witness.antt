@@ -8,7 +8,7 @@ use Rattle.laws.specs.Sum.{sumTo}
 use Rattle.laws.specs.Flat.{flatGood}
 use Rattle.curve.specs.CurveNumbers.{coverTable, coverNumber, classOf, totalArea, weighted, nearest, composite, patchWithin, patchesGood}
 use Rattle.runoff.specs.RunoffDepth.{depth}
-use Rattle.travel.specs.TravelTime.{segmentTime, concentration, timeToPeak, segmentWithin, placeWithin, segmentsGood, SameSegment}
+use Rattle.travel.specs.TravelTime.{segmentTime, concentration, timeToPeak, ruleGood, sheetLimit, segmentWithin, placeWithin, segmentsGood, SameSegment}
 use Rattle.hydrograph.specs.InflowRows.{shape, time, ratio, lineAt, onLine, weight, totalWeight, runoffAt, depthReleased, volumeOf, part, concentrationGood, peakGood, weightsGood}
 use Rattle.pond.specs.PondRows.{sumAt, lower, between, dischargeAt, stageAt, arrived, settled, countGood, rowWithin, orderGood}
 use Rattle.rows.specs.Routing.{states, passed, overRow, stateBefore}
@@ -26,7 +26,7 @@ use Rattle.edit.proofs.EditIsStudy.{chain, standing-balance}
 use Rattle.worked.specs.Witness.{parkingBefore, parking, siteOf, lent, small, large, earlier, smallFigures, enlarged, Witness}
 
 pub witness : Witness
-unfolding scan sumTo flatGood coverTable coverNumber classOf totalArea weighted nearest composite patchWithin patchesGood depth segmentTime concentration timeToPeak segmentWithin placeWithin segmentsGood shape time ratio lineAt onLine weight totalWeight runoffAt depthReleased volumeOf part concentrationGood peakGood weightsGood sumAt lower between dischargeAt stageAt arrived settled countGood rowWithin orderGood states passed overRow stateBefore maxTo peakRow keptTo figuresOf standsWithin firstAfter patchesPass segmentsPass lengthsGood stepGood entriesGood lastGood recordsGood rowsFrom overCheck studyRefusal studyAnswer studyRows swapped firstChanged placeGood inflowFits overFrom editRefusal editedOf editAnswer editRows
+unfolding scan sumTo flatGood coverTable coverNumber classOf totalArea weighted nearest composite patchWithin patchesGood depth segmentTime concentration timeToPeak ruleGood sheetLimit segmentWithin placeWithin segmentsGood shape time ratio lineAt onLine weight totalWeight runoffAt depthReleased volumeOf part concentrationGood peakGood weightsGood sumAt lower between dischargeAt stageAt arrived settled countGood rowWithin orderGood states passed overRow stateBefore maxTo peakRow keptTo figuresOf standsWithin firstAfter patchesPass segmentsPass lengthsGood stepGood entriesGood lastGood recordsGood rowsFrom overCheck studyRefusal studyAnswer studyRows swapped firstChanged placeGood inflowFits overFrom editRefusal editedOf editAnswer editRows
 witness =
     record {
       study-answers = refl;

@@ -24,11 +24,11 @@ parkingBefore unread area =
 abbrev pub parking : ℕ → List ℕ
 parking area = parkingBefore 0 area
 
--- D 60, 3 in of rain in one step, that subarea, and the pond of the worked lines
+-- D 60, sheet rule 1 (there is no sheet flow, and one is needed all the same), 3 in of rain in one step, that subarea, and the pond of the worked lines
 abbrev pub siteOf : ℕ → Site
 siteOf area =
     record {
-      setup = record { step = 60; first = 1 };
+      setup = record { step = 60; first = 1; rule = 1 };
       rain = 0 ∷ 3000 ∷ [];
       subareas = parking area;
       pond = twoRows;

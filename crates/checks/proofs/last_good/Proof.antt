@@ -13,7 +13,7 @@ use Rattle.checks.proofs.last_good.Tie as tie
 
 past : tie.Need-returns
 unfolding lastGood
-past c = rw (lt-leb (c .before .before .args .setup .first + c .before .before .args .m - 1) lastNumber (omega arith))
+past c = rw (lt-leb (c .before .args .first + c .before .args .m - 1) lastNumber (omega arith))
 
 -- the difference tests the sum
 moved : (first m : ℕ) → first ≤ lastNumber + 1 → leb m (lastNumber + 1 - first) ≡ leb (first + m - 1) lastNumber
@@ -21,7 +21,7 @@ moved first m l = leb-same m (lastNumber + 1 - first) (first + m - 1) lastNumber
 
 within-last : tie.Need-returns-2
 unfolding lastGood
-within-last c = moved (c .before .before .before .args .setup .first) (c .before .before .before .args .m) (c .before .if1 .left)
+within-last c = moved (c .before .args .first) (c .before .args .m) (c .if1 .left)
 
 pub last-good-spec : {M : Type 1} → statement M
 last-good-spec = tie.close (tie.spec (λ c. search needs) past (λ c. search needs) (λ c. search needs) within-last)

@@ -8,7 +8,6 @@ use Rattle.pond.specs.Needs.{TableOk}
 use Rattle.refusals.specs.declared.Refusal.{Refusal}
 use Rattle.refusals.specs.Refusals.{unless, firstOf, firstAfter, firstRefusal}
 use Rattle.refusals.proofs.Orders.{joined, stops, goes-on, all-pass}
-use Rattle.subarea.specs.Records.{halfOf}
 use Rattle.checks.proofs.Ready.{table-fits}
 use Rattle.checks.proofs.pond_checks.Statement.{statement}
 use Rattle.checks.proofs.pond_checks.Tie as tie
@@ -31,7 +30,7 @@ refused : tie.Need-returns
 refused c =
     let s = c .before .before .before .before .before .before in
     let p = s .args .pond .now in
-    stops (fore p) (firstOf 13 (firstShort (halfOf (s .args .setup)) p) (rowsIn p) ∷ []) (limits (c .before .before)) (c .if1 .taken)
+    stops (fore p) (firstOf 13 (firstShort (s .args .half) p) (rowsIn p) ∷ []) (limits (c .before .before)) (c .if1 .taken)
 
 requires : tie.Need-held-check-requires
 requires c κs = (c .before .before .before .before .before .before .pre, table (c .before .before .before .before .before .before .args .pond .now) (limits (c .before .before)) (c .if1 .left))

@@ -2,6 +2,7 @@
 use native.Mathlib.Omega.{arith}
 use borrow.Author.Needs.{needs}
 use mathlib.Core.List.{[], _∷_, _++_}
+use Rattle.travel.specs.TravelTime.{ruleGood}
 use Rattle.refusals.specs.Refusals.{unless, firstAfter}
 use Rattle.refusals.proofs.Orders.{appended}
 use Rattle.checks.specs.Site.{Site, Rows, basinNow, rowsNow, asked}
@@ -18,17 +19,22 @@ l s = rowsNow (s .args .inflow) (s .args .outflow) (s .args .storage)
 returns : tie.Need-returns
 unfolding firstAfter
 returns c =
-    let two = c .before .before in
+    let three = c .before .before in
+    let two = three .before .before in
     let one = two .before .before in
     let s = one .before .before .before .before .before .before .before .before in
-    let frame = frameLines (x s .setup) (l s) in
+    let g = x s .setup in
+    let frame = frameLines (g .step) (l s) in
+    let twenty = unless 20 (ruleGood (g .rule)) ∷ [] in
     let rain = rainLines (x s .rain) (asked (l s)) in
-    let four = unless 4 (lastGood (x s .setup) (asked (l s))) in
-    appended (frame ++ rain ++ (four ∷ [])) (unless 5 (recordsGood (x s .subareas)) ∷ []) (omega arith) (c .or3 .ensures)
-    (appended (frame ++ rain) (four ∷ []) (omega arith) (two .or2 .ensures) (appended frame rain (omega arith) (one .or .ensures) (one .before .before .frame-checks .ensures) (one .before .rain-checks .ensures)) (two .before .last-check .ensures))
-    (c .before .records-check .ensures)
+    let four = unless 4 (lastGood (g .first) (asked (l s))) ∷ [] in
+    let five = unless 5 (recordsGood (x s .subareas)) ∷ [] in
+    let rule = appended frame twenty (omega arith) (one .or .ensures) (one .before .before .frame-checks .ensures) (one .before .rule-check .ensures) in
+    let fallen = appended (frame ++ twenty) rain (omega arith) (two .or2 .ensures) rule (two .before .rain-checks .ensures) in
+    let numbered = appended (frame ++ twenty ++ rain) four (omega arith) (three .or3 .ensures) fallen (three .before .last-check .ensures) in
+    appended (frame ++ twenty ++ rain ++ four) five (omega arith) (c .or4 .ensures) numbered (c .before .records-check .ensures)
 
 pub run-checks-spec : {M : Type 1} → statement M
 run-checks-spec =
     tie.close
-    (tie.spec (search needs) (search needs) (search needs) (search needs) (search needs) (search needs) (search needs) returns)
+    (tie.spec (search needs) (search needs) (search needs) (search needs) (search needs) (search needs) (search needs) (search needs) (search needs) returns)

@@ -8,7 +8,7 @@ use lib.ListN.{length}
 use Rattle.rows.specs.Figures.{at}
 use Rattle.refusals.specs.declared.Refusal.{Refusal}
 use Rattle.checks.specs.Site.{Site, Rows, siteNow, rowsNow}
-use Rattle.subarea.specs.Records.{width}
+use Rattle.subarea.specs.Records.{halfOf, width}
 use Rattle.refusals.specs.Refusals.{firstOf, firstRefusal, AllPass}
 use Rattle.inflow.specs.Inflow.{partOf, rowsFrom}
 use Rattle.refusals.proofs.Orders.{all-pass}
@@ -31,13 +31,13 @@ l s = rowsNow (s .args .inflow) (s .args .outflow) (s .args .storage)
 
 fill-requires : tie.Need-fill-parts-requires
 fill-requires c κs =
-    let s = c .before .before .before .before .before .before .before .before .before .before in
+    let s = c .before .before .before .before .before .before .before .before .before .before .before in
     let old = old-ok (x s) (l s) (s .args .place) (s .args .fresh .now) (s .pre .0) in
     let own = part-is (width * (s .args .place - 1)) width (s .args .subareas .now) in
     (rw own (old .0), (rw own (old .1), (s .pre .0 .work .basin .run .raining, omega (arith, s .pre .1, s .pre .0 .work .basin .run .lengths .most))))
 
 abbrev S : tie.After-fill-parts → tie.Start
-S f = f .before .before .before .before .before .before .before .before .before .before .before
+S f = f .before .before .before .before .before .before .before .before .before .before .before .before
 
 -- the old record's parts
 parts : (f : tie.After-fill-parts) → f .fill-parts .last .1 .1 .1 .0 ≡ rowsFrom (oldPart (x (S f)) (S f .args .place)) 1 (length (S f .args .inflow .now))
@@ -66,8 +66,8 @@ checked g =
     let s = S f in
     let vs = s .args .inflow .now in
     g .rows-checks .ensures
-    ∙ ap (λ (z : List ℕ). firstRefusal (partLines (x s .setup) (x s .pond) z (l s))) (parts f)
-    ∙ ap (λ (z : ℕ). firstRefusal (firstOf 16 z (length vs) ∷ forgedLine (x s .setup) (x s .pond) (l s) ∷ [])) (unfit-same (oldPart (x s) (s .args .place)) vs)
+    ∙ ap (λ (z : List ℕ). firstRefusal (partLines (halfOf (x s .setup)) (x s .pond) z (l s))) (parts f)
+    ∙ ap (λ (z : ℕ). firstRefusal (firstOf 16 z (length vs) ∷ forgedLine (halfOf (x s .setup)) (x s .pond) (l s) ∷ [])) (unfit-same (oldPart (x s) (s .args .place)) vs)
 
 refused : tie.Need-returns
 refused c =
@@ -108,14 +108,14 @@ classes-requires c κs = let s = S (G (c .before .before)) in ground-ok (x s) (l
 
 settle-requires : tie.Need-settle-requires
 settle-requires c κs =
-    let w = c .before .before .before .before .before .before .before .before in
+    let w = c .before .before .before .before .before .before .before in
     let s = S (G w) in
     rows-fit (x s) (l s) (s .args .place) (s .args .fresh .now) (s .pre .0) (clear (E w)) _ (new w)
 
 returns : tie.Need-returns-2
 returns c =
     let t = c .before .before .before .before .before .before in
-    let d = t .before .before .before .before .before .before in
+    let d = t .before .before .before .before .before in
     let w = d .before .before .before in
     let g = E w .before .before in
     let s = S (G w) in
@@ -123,7 +123,7 @@ returns c =
 
 long : tie.Need-same-length-8
 long c =
-    let w = c .before .before .before .before .before .before .before .before .before .before .before .before .before .before .before in
+    let w = c .before .before .before .before .before .before .before .before .before .before .before .before .before .before in
     let s = S (G w) in
     ap length (new w) ∙ swapped-length (oldPart (x s) (s .args .place)) (freshPart (x s) (s .args .fresh .now)) 1 (s .args .inflow .now) ∙ sym (s .pre .1)
 

@@ -16,8 +16,7 @@ returns : tie.Need-returns
 unfolding firstAfter
 returns c =
     let s = c .before .before .before .before .before .before in
-    let g = s .args .setup in
-    appended (frameLines g (l s)) (unless 4 (lastGood g (asked (l s))) ∷ []) (omega arith) (c .or .ensures) (c .before .before .frame-checks .ensures) (c .before .last-check .ensures)
+    appended (frameLines (s .args .step) (l s)) (unless 4 (lastGood (s .args .first) (asked (l s))) ∷ []) (omega arith) (c .or .ensures) (c .before .before .frame-checks .ensures) (c .before .last-check .ensures)
 
 pub mark-checks-spec : {M : Type 1} → statement M
 mark-checks-spec = tie.close (tie.spec (search needs) (search needs) (search needs) returns)

@@ -1,7 +1,7 @@
 -- `marks::mark_refusal` meets its contract. Assumes nothing.
 use mathlib.Core.Path.{_≡_, sym, ap, _∙_}
 use mathlib.Core.List.{List, _++_}
-use Prim.Native.Nat.{ℕ}
+use Prim.Native.Nat.{ℕ, _/_}
 use borrow.Author.Needs.{needs}
 use Rattle.refusals.specs.declared.Refusal.{Refusal}
 use Rattle.checks.specs.Site.{Rows, rowsNow}
@@ -9,6 +9,7 @@ use Rattle.refusals.specs.Refusals.{firstAfter, firstRefusal}
 use Rattle.marks.specs.ChartMarks.{markLines, askedLines, markRefusal}
 use Rattle.checks.specs.Order.{pondLines}
 use Rattle.refusals.proofs.Orders.{joined, stops, goes-on, all-pass}
+use Rattle.checks.proofs.Ready.{half-ok}
 use Rattle.marks.proofs.Ready.{mark-ready, table-ok}
 use Rattle.marks.proofs.mark_refusal.Statement.{statement}
 use Rattle.marks.proofs.mark_refusal.Tie as tie
@@ -24,13 +25,13 @@ number v = v .number
 
 -- 1, 2 and 4; 12 and 13; 18 and 17
 abbrev front : tie.Start → List Refusal
-front s = markLines (s .args .setup) (l s)
+front s = markLines (s .args .step) (s .args .first) (l s)
 
 abbrev table : tie.Start → List Refusal
-table s = pondLines (s .args .setup) (p s)
+table s = pondLines (s .args .step / 2) (p s)
 
 abbrev rest : tie.Start → List Refusal
-rest s = askedLines (s .args .setup) (p s) (l s) (s .args .row)
+rest s = askedLines (s .args .step / 2) (p s) (l s) (s .args .row)
 
 -- where 1, 2 and 4 refuse nothing, and then where 12 and 13 do not either
 abbrev listed : tie.Else1 → tie.Start
@@ -48,7 +49,7 @@ lists c =
 half : tie.Need-pond-checks-requires
 half c κs =
     let s = listed c in
-    mark-ready (s .args .setup) (l s) (all-pass (front s) (sym (ap number (c .before .before .mark-checks .ensures)) ∙ c .if1 .left)) .step
+    half-ok (s .args .step) (mark-ready (s .args .step) (s .args .first) (l s) (all-pass (front s) (sym (ap number (c .before .before .mark-checks .ensures)) ∙ c .if1 .left)) .step)
 
 -- 1, 2, 4, 12 and 13
 found : (c : tie.After-pond-checks) → let s = listed (c .before) in c .pond-checks .result ≡ firstRefusal (front s ++ table s)
@@ -64,7 +65,7 @@ forged : tie.Need-forged-check-requires
 forged c κs =
     let d = c .before .before in
     let s = tabled d in
-    let r = table-ok (s .args .setup) (p s) (l s) (all-pass (front s ++ table s) (sym (ap number (found (d .before .before))) ∙ d .if2 .left)) in
+    let r = table-ok (s .args .step) (s .args .first) (p s) (l s) (all-pass (front s ++ table s) (sym (ap number (found (d .before .before))) ∙ d .if2 .left)) in
     (r .1, r .0 .lengths .held-long ∙ sym (r .0 .lengths .out-long))
 
 returns : tie.Need-returns-3

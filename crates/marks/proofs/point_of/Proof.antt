@@ -10,10 +10,10 @@ use Rattle.marks.proofs.point_of.Tie as tie
 returns : tie.Need-returns
 unfolding pointAt
 returns c =
-    let s = c .before .before .before .before .before .args in
-    let number : s .setup .first + (s .row - 1) ≡ s .setup .first + s .row - 1 = omega (arith, c .before .before .before .before .before .pre .least) in
+    let s = c .before .before .before .args in
+    let number : s .first + (s .row - 1) ≡ s .first + s .row - 1 = omega (arith, c .before .before .before .pre .least) in
     λ i. record {
-      row = (c .before .before .before .double .ensures ∙ ap doubleOf number) i;
+      row = (c .before .before .double .ensures ∙ ap doubleOf number) i;
       seconds = c .before .double2 .ensures i;
       outflow = c .double3 .ensures i;
     }

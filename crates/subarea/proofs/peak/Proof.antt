@@ -3,14 +3,13 @@ use mathlib.Core.Path.{ap, _∙_}
 use borrow.Author.Needs.{needs}
 use Rattle.travel.specs.TravelTime.{timeToPeak}
 use Rattle.travel.proofs.Times.{concentration-ok}
-use Rattle.subarea.proofs.Subareas.{segments-fit}
 use Rattle.subarea.proofs.peak.Statement.{statement}
 use Rattle.subarea.proofs.peak.Tie as tie
 
 requires : tie.Need-time-to-peak-requires
 requires c κs =
     let s = c .before .before in
-    rw (c .time .ensures) (concentration-ok (segments-fit (s .args .own .now) (s .pre .1)))
+    rw (c .time .ensures) (concentration-ok (s .pre .1 .fits))
 
 returns : tie.Need-returns
 returns c =

@@ -5,14 +5,14 @@ use borrow.Author.Needs.{needs}
 use Rattle.travel.specs.TravelTime.{concentration, segmentWidth}
 use Prim.Native.Nat.{_*_}
 use Rattle.subarea.specs.Records.{segmentCount, segmentsFrom}
-use Rattle.subarea.proofs.Subareas.{part-is, segments-few, segments-fit}
+use Rattle.subarea.proofs.Subareas.{part-is}
 use Rattle.subarea.proofs.time.Statement.{statement}
 use Rattle.subarea.proofs.time.Tie as tie
 
 requires : tie.Need-concentration-requires
 requires c κs =
     let s = c .before .before .before in
-    rw (part-is segmentsFrom (segmentWidth * segmentCount (s .args .own .now)) (s .args .own .now)) (segments-fit (s .args .own .now) (s .pre .1))
+    rw (part-is segmentsFrom (segmentWidth * segmentCount (s .args .own .now)) (s .args .own .now)) (s .pre .1 .fits)
 
 returns : tie.Need-returns
 returns c =
@@ -22,5 +22,5 @@ returns c =
 pub time-spec : {M : Type 1} → statement M
 time-spec =
     tie.close
-    (tie.spec (λ c. omega (arith, c .before .before .pre .0)) (λ c. omega (arith, segments-few (c .before .before .args .own .now) (c .before .before .pre .1) .high)) (λ c. omega (arith, segments-few (c .before .before .args .own .now) (c .before .before .pre .1) .high))
-    (λ c. search needs) (λ c. omega arith) (λ c. omega arith) (λ c. omega (arith, segments-few (c .before .before .args .own .now) (c .before .before .pre .1) .high, c .before .before .pre .0)) requires returns)
+    (tie.spec (λ c. omega (arith, c .before .before .pre .0)) (λ c. omega (arith, c .before .before .pre .1 .most)) (λ c. omega (arith, c .before .before .pre .1 .most))
+    (λ c. search needs) (λ c. omega arith) (λ c. omega arith) (λ c. omega (arith, c .before .before .pre .1 .most, c .before .before .pre .0)) requires returns)

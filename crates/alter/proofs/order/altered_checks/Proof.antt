@@ -10,7 +10,9 @@ use Rattle.laws.specs.Limits.{mostArea}
 use Rattle.refusals.specs.declared.Refusal.{Refusal}
 use Rattle.refusals.specs.Refusals.{unless, firstAfter, firstRefusal, AllPass}
 use Rattle.refusals.proofs.Orders.{charged, charge-none, appended, all-pass, stops, goes-on}
-use Rattle.subarea.specs.Records.{patchesPass, segmentsPass}
+use Rattle.subarea.specs.Records.{patchesPass}
+use Rattle.subarea.specs.Needs.{RoutedOk}
+use Rattle.subarea.proofs.Subareas.{segments-fit}
 use Rattle.checks.specs.Order.{limitTests, timingTests, listLines}
 use Rattle.checks.specs.Needs.{overRecord}
 use Rattle.checks.proofs.Ready.{list-ok}
@@ -22,7 +24,7 @@ use Rattle.alter.proofs.order.altered_checks.Tie as tie
 
 -- 6 and 7, 8, and 9 to 11, of the fresh record
 abbrev fore : tie.Start → List Refusal
-fore s = map (overRecord (s .args .fresh .now) (s .args .place)) limitTests
+fore s = map (overRecord (s .args .fresh .now) (s .args .place)) (limitTests (s .args .setup .rule))
 
 abbrev area : tie.Start → Refusal
 area s = unless 8 (leb (alteredArea (s .args .subareas .now) (s .args .place) (s .args .fresh .now)) mostArea)
@@ -30,11 +32,11 @@ area s = unless 8 (leb (alteredArea (s .args .subareas .now) (s .args .place) (s
 abbrev times : tie.Start → List Refusal
 times s = map (overRecord (s .args .fresh .now) (s .args .place)) (timingTests (s .args .setup))
 
--- neither 6 nor 7 is refused: the fresh record's patches and segments pass
-fresh : (s : tie.Start) {v : Refusal} → v ≡ firstRefusal (fore s) → v .number ≡ 0 → (patchesPass (s .args .fresh .now) ≡ true) × (segmentsPass (s .args .fresh .now) ≡ true)
+-- neither 6 nor 7 is refused: the fresh record's patches and segments pass, by the setup's rule
+fresh : (s : tie.Start) {v : Refusal} → v ≡ firstRefusal (fore s) → v .number ≡ 0 → (patchesPass (s .args .fresh .now) ≡ true) × RoutedOk (s .args .fresh .now)
 fresh s e z =
     let p = all-pass (fore s) (sym (ap (λ (v : Refusal). v .number) e) ∙ z) in
-    (charge-none 5 _ _ (p .0), charge-none 6 _ _ (p .1 .0))
+    (charge-none 5 _ _ (p .0), segments-fit (s .args .fresh .now) (s .args .setup .rule) (charge-none 6 _ _ (p .1 .0)))
 
 -- the list as it stands passes
 stood : (s : tie.Start) → AllPass (listLines (s .args .setup) (s .args .subareas .now))

@@ -3,11 +3,13 @@ use mathlib.Core.Path.{_≡_, sym, ap, _∙_}
 use mathlib.Core.List.{List, _++_}
 use borrow.Author.Needs.{needs}
 use Rattle.refusals.specs.declared.Refusal.{Refusal}
+use Rattle.subarea.specs.Records.{halfOf}
 use Rattle.checks.specs.Site.{Site, Rows, siteNow, rowsNow}
 use Rattle.refusals.specs.Refusals.{firstAfter, firstRefusal}
 use Rattle.checks.specs.Order.{listLines, pondLines}
 use Rattle.refusals.proofs.Orders.{joined, all-pass, stops, goes-on}
 use Rattle.checks.specs.Needs.{RunOk}
+use Rattle.checks.proofs.Ready.{half-ok}
 use Rattle.alter.specs.Altering.{altered}
 use Rattle.alter.specs.Needs.{PlaceOk}
 use Rattle.alter.proofs.Ready.{placeLines, place-ready}
@@ -36,7 +38,7 @@ alters s = listLines (x s .setup) (altered (x s .subareas) (s .args .place) (s .
 
 -- 12 and 13
 abbrev ponds : tie.Start → List Refusal
-ponds s = pondLines (x s .setup) (x s .pond)
+ponds s = pondLines (halfOf (x s .setup)) (x s .pond)
 
 number : {v w : Refusal} → v ≡ w → v .number ≡ 0 → w .number ≡ 0
 number e z = sym (ap (λ (u : Refusal). u .number) e) ∙ z
@@ -84,17 +86,17 @@ lists-refused c =
 
 pond-requires : tie.Need-pond-checks-requires
 pond-requires c κs =
-    let a = c .before .before .before .before .before in
-    ready (a .before .before .before) (a .before .if1 .left) .0 .step
+    let a = c .before .before .before .before .before .before in
+    half-ok _ (ready (a .before .before .before) (a .before .if1 .left) .0 .step)
 
 returns : tie.Need-returns-4
 returns c =
-    let b = c .before .before .before in
+    let b = c .before .before .before .before in
     let a = b .before .before .before in
     let g = a .before .before .before in
     let s = S g in
     c .pond-checks .ensures
-    ∙ goes-on (alters s) _ _ (b .altered-checks .ensures) (c .before .if3 .left)
+    ∙ goes-on (alters s) _ _ (b .altered-checks .ensures) (c .before .before .if3 .left)
     ∙ goes-on (stands s) _ _ (a .list-checks .ensures) (b .before .if2 .left)
     ∙ goes-on (fore s) _ _ (run g) (a .before .if1 .left)
 

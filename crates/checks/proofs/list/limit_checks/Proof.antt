@@ -13,15 +13,16 @@ use Rattle.checks.proofs.list.limit_checks.Statement.{statement}
 use Rattle.checks.proofs.list.limit_checks.Tie as tie
 
 abbrev Inv-loop : tie.InvT-loop
-Inv-loop s n patches₀ segments₀ i₀ patches segments i = (i ≤ recordsIn s) × ((patches ≡ soFar patchesPass s 6 i) × (segments ≡ soFar segmentsPass s 7 i))
+Inv-loop rule s n patches₀ segments₀ i₀ patches segments i = (i ≤ recordsIn s) × ((patches ≡ soFar patchesPass s 6 i) × (segments ≡ soFar (segmentsPass rule) s 7 i))
 
 abbrev μ-loop : tie.MeasureT-loop
-μ-loop s n patches₀ segments₀ i₀ patches segments i = n - i
+μ-loop rule s n patches₀ segments₀ i₀ patches segments i = n - i
 
 loop-holds : tie.Need-loop-holds Inv-loop μ-loop
 loop-holds c =
-    let l = c .before .before .before .args .subareas .now in
-    (omega arith, (c .before .none .ensures ∙ none-yet patchesPass l 6, c .none2 .ensures ∙ none-yet segmentsPass l 7))
+    let s = c .before .before .before in
+    let l = s .args .subareas .now in
+    (omega arith, (c .before .none .ensures ∙ none-yet patchesPass l 6, c .none2 .ensures ∙ none-yet (segmentsPass (s .args .rule)) l 7))
 
 patches-requires : tie.Need-patches-check-requires Inv-loop μ-loop
 patches-requires c κs =
@@ -38,18 +39,21 @@ segments-requires c κs =
 again : tie.Need-loop-again Inv-loop μ-loop
 again c =
     let g = c .before .before .before .before .before .before .before .loop in
-    let l = c .before .before .before .before .before .before .before .before .before .before .before .args .subareas .now in
+    let s = c .before .before .before .before .before .before .before .before .before .before .before in
+    let l = s .args .subareas .now in
     let own = part-is (width * g .i) width l in
     let six = c .before .before .before in
-    (omega arith, (one-record patchesPass l 5 (g .i) (six .or .ensures) (g .inv .1 .0) (charged 6 (g .i + 1) (six .before .patches-check .ensures) (ap patchesPass own)), one-record segmentsPass l 6 (g .i) (c .or2 .ensures) (g .inv .1 .1) (charged 7 (g .i + 1) (c .before .segments-check .ensures) (ap segmentsPass own))))
+    let routed = segmentsPass (s .args .rule) in
+    (omega arith, (one-record patchesPass l 5 (g .i) (six .or .ensures) (g .inv .1 .0) (charged 6 (g .i + 1) (six .before .patches-check .ensures) (ap patchesPass own)), one-record routed l 6 (g .i) (c .or2 .ensures) (g .inv .1 .1) (charged 7 (g .i + 1) (c .before .segments-check .ensures) (ap routed own))))
 
 returns : tie.Need-returns Inv-loop μ-loop
 unfolding firstAfter
 returns c =
     let g = c .before .before .loop in
-    let l = c .before .before .before .before .before .before .args .subareas .now in
+    let s = c .before .before .before .before .before .before in
+    let l = s .args .subareas .now in
     let all : g .i ≡ recordsIn l = omega arith in
-    joined (c .or3 .ensures) (all-records patchesPass l 6 (g .inv .1 .0) all) (all-records segmentsPass l 7 (g .inv .1 .1) all)
+    joined (c .or3 .ensures) (all-records patchesPass l 6 (g .inv .1 .0) all) (all-records (segmentsPass (s .args .rule)) l 7 (g .inv .1 .1) all)
 
 pub limit-checks-spec : {M : Type 1} → statement M
 limit-checks-spec =

@@ -17,8 +17,8 @@ use Rattle.checks.proofs.list.list_checks.Statement.{statement}
 use Rattle.checks.proofs.list.list_checks.Tie as tie
 
 -- none of 6 and 7 is refused: every subarea's patches and segments pass
-passed : (s : List ℕ) {r : Refusal} → r ≡ firstRefusal (map (overList s) limitTests) → r .number ≡ 0 → AllPatches s × AllSegments s
-passed s e z = limits-ok s (all-pass (map (overList s) limitTests) (sym (ap (λ (v : Refusal). v .number) e) ∙ z))
+passed : (rule : ℕ) (s : List ℕ) {r : Refusal} → r ≡ firstRefusal (map (overList s) (limitTests rule)) → r .number ≡ 0 → AllPatches s × AllSegments s
+passed rule s e z = limits-ok rule s (all-pass (map (overList s) (limitTests rule)) (sym (ap (λ (v : Refusal). v .number) e) ∙ z))
 
 -- 8 to 11
 abbrev rest : Setup → List ℕ → List Refusal
@@ -27,15 +27,17 @@ rest g s = map (overList s) (total 8 (λ (a : ℕ). leb a mostArea) ∷ timingTe
 refused : tie.Need-returns
 refused c =
     let s = c .before .before .before .before in
-    stops (map (overList (s .args .subareas .now)) limitTests) (rest (s .args .setup) (s .args .subareas .now)) (c .before .before .limit-checks .ensures) (c .if1 .taken)
+    stops (map (overList (s .args .subareas .now)) (limitTests (s .args .setup .rule))) (rest (s .args .setup) (s .args .subareas .now)) (c .before .before .limit-checks .ensures) (c .if1 .taken)
 
 area-requires : tie.Need-all-area-requires
-area-requires c κs = (c .before .before .before .before .pre .1, passed (c .before .before .before .before .args .subareas .now) (c .before .before .limit-checks .ensures) (c .if1 .left) .0)
+area-requires c κs =
+    let s = c .before .before .before .before in
+    (s .pre .1, passed (s .args .setup .rule) (s .args .subareas .now) (c .before .before .limit-checks .ensures) (c .if1 .left) .0)
 
 timing-requires : tie.Need-timing-checks-requires
 timing-requires c κs =
     let s = c .before .before .before .before .before .before in
-    (s .pre .0, (s .pre .1, passed (s .args .subareas .now) (c .before .before .before .before .limit-checks .ensures) (c .before .before .if1 .left) .1))
+    (s .pre .0, (s .pre .1, passed (s .args .setup .rule) (s .args .subareas .now) (c .before .before .before .before .limit-checks .ensures) (c .before .before .if1 .left) .1))
 
 returns : tie.Need-returns-2
 unfolding firstAfter
@@ -44,7 +46,7 @@ returns c =
     let l = s .args .subareas .now in
     let eight = charged 8 0 (c .before .before .area-check .ensures) (ap (λ (a : ℕ). leb a mostArea) (c .before .before .before .all-area .ensures)) in
     appended (unless 8 (leb (allArea l) mostArea) ∷ []) (map (overList l) (timingTests (s .args .setup))) (omega arith) (c .or .ensures) eight (c .before .timing-checks .ensures)
-    ∙ goes-on (map (overList l) limitTests) (unless 8 (leb (allArea l) mostArea)) (map (overList l) (timingTests (s .args .setup))) (c .before .before .before .before .before .before .limit-checks .ensures) (c .before .before .before .before .if1 .left)
+    ∙ goes-on (map (overList l) (limitTests (s .args .setup .rule))) (unless 8 (leb (allArea l) mostArea)) (map (overList l) (timingTests (s .args .setup))) (c .before .before .before .before .before .before .limit-checks .ensures) (c .before .before .before .before .if1 .left)
 
 pub list-checks-spec : {M : Type 1} → statement M
 list-checks-spec = tie.close (tie.spec (search needs) refused area-requires (search needs) timing-requires (search needs) returns)

@@ -12,8 +12,8 @@ use Rattle.hydrograph.specs.InflowRows.{concentrationGood, peakGood, weightsGoo
 use Rattle.travel.specs.Needs.{TimeOk}
 use Rattle.travel.proofs.Times.{concentration-ok}
 use Rattle.subarea.specs.declared.Setup.{Setup}
-use Rattle.subarea.specs.Records.{width, recordsIn, recordAt, timeOf, segmentsPass}
-use Rattle.subarea.proofs.Subareas.{part-is, record-length, segments-fit}
+use Rattle.subarea.specs.Records.{width, recordsIn, recordAt, timeOf}
+use Rattle.subarea.proofs.Subareas.{part-is, record-length}
 use Rattle.checks.proofs.Kept.{soFar, none-yet, one-record, all-records}
 use Rattle.checks.proofs.list.timing_checks.Statement.{statement}
 use Rattle.checks.proofs.list.timing_checks.Tie as tie
@@ -46,7 +46,7 @@ time-requires c κs =
     let l = s .args .subareas .now in
     let i = c .before .before .loop .i in
     let own = part-is (width * i) width l in
-    (ap length own ∙ record-length l (s .pre .1 .0) i (omega arith), ap segmentsPass own ∙ s .pre .1 .1 .each i (omega arith))
+    (ap length own ∙ record-length l (s .pre .1 .0) i (omega arith), rw own (s .pre .1 .1 .each i (omega arith)))
 
 -- the Tc of the record
 told : (c : tie.After-time Inv-loop μ-loop) → c .time .result ≡ timeOf (recordAt (c .before .before .before .before .before .before .before .before .args .subareas .now) (c .before .before .before .loop .i))
@@ -56,7 +56,7 @@ time-ok : (c : tie.After-time Inv-loop μ-loop) → TimeOk (c .time .result)
 time-ok c =
     let s = c .before .before .before .before .before .before .before .before in
     let i = c .before .before .before .loop .i in
-    rw (told c) (concentration-ok (segments-fit (recordAt (s .args .subareas .now) i) (s .pre .1 .1 .each i (omega arith))))
+    rw (told c) (concentration-ok (s .pre .1 .1 .each i (omega arith) .fits))
 
 peak-requires : tie.Need-peak-check-requires Inv-loop μ-loop
 peak-requires c κs = time-ok (c .before .before)

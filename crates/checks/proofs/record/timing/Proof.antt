@@ -6,7 +6,6 @@ use Rattle.travel.proofs.Times.{concentration-ok}
 use Rattle.hydrograph.specs.InflowRows.{concentrationGood, peakGood, weightsGood}
 use Rattle.refusals.specs.Refusals.{firstAfter}
 use Rattle.refusals.proofs.Orders.{joined, charged}
-use Rattle.subarea.proofs.Subareas.{segments-fit}
 use Rattle.checks.proofs.record.timing.Statement.{statement}
 use Rattle.checks.proofs.record.timing.Tie as tie
 
@@ -14,7 +13,7 @@ use Rattle.checks.proofs.record.timing.Tie as tie
 time-ok : (c : tie.After-time) → TimeOk (c .time .result)
 time-ok c =
     let s = c .before .before in
-    rw (c .time .ensures) (concentration-ok (segments-fit (s .args .own .now) (s .pre .1 .1)))
+    rw (c .time .ensures) (concentration-ok (s .pre .1 .1 .fits))
 
 peak-requires : tie.Need-peak-check-requires
 peak-requires c κs = time-ok (c .before)

@@ -57,7 +57,7 @@ use Rattle.host.proofs.records.bt_study_records.Code as code
 
 -- the parameters' machine values
 abbrev spells : (κs : Lfts 7) → Spells (typesAt (entry.signature .params) κs)
-spells κs = (uint-vals w64, (uint-vals w64, (slice-vals, (slice-vals, (slice-vals, (slice-vals, (slice-vals, (slice-vals, (ptr-vals, tt)))))))))
+spells κs = (uint-vals w64, (uint-vals w64, (uint-vals w64, (slice-vals, (slice-vals, (slice-vals, (slice-vals, (slice-vals, (slice-vals, (ptr-vals, tt))))))))))
 
 module _ {M : Type 1} (𝓤 : URA M) (H : Heap 𝓤) (A : Atoms 𝓤) (mem : Memory → SProp 𝓤) (run : Routine → Fun 𝓤) where
   abbrev Core : Contract 𝓤
@@ -65,7 +65,7 @@ module _ {M : Type 1} (𝓤 : URA M) (H : Heap 𝓤) (A : Atoms 𝓤) (mem : Mem
 
 module _ {M : Type 1} (𝓤 : URA M) (H : Heap 𝓤) (A : Atoms 𝓤) (mem : Memory → SProp 𝓤) (run : Routine → Fun 𝓤) (κs : Lfts 7) (qs : Shares 7) (a : Args entry.signature κs) where
   abbrev list : RefT (List Subarea)
-  list = a .1 .1 .1 .0
+  list = a .1 .1 .1 .1 .0
 
   abbrev at : Vals entry.signature κs
   at = valss (typesAt (entry.signature .params) κs) (spells κs) a
@@ -78,20 +78,20 @@ module _ {M : Type 1} (𝓤 : URA M) (H : Heap 𝓤) (A : Atoms 𝓤) (mem : Mem
   core-lfts = (κs .0, κs .1 .1)
 
   abbrev core-args : Args core.signature core-lfts
-  core-args = (gathered (now list), (length (now list), (a .0, (a .1 .0, (a .1 .1 .0, a .1 .1 .1 .1)))))
+  core-args = (gathered (now list), (length (now list), (a .0, (a .1 .0, (a .1 .1 .0, (a .1 .1 .1 .0, a .1 .1 .1 .1 .1))))))
 
   abbrev to-core : Val → Core 𝓤 H A mem run .Ghost
-  to-core v = ((core-lfts, (qs .0, qs .1 .1), tt, core-args, (v ∷ [], (vint w64 (length (now list)) ∷ [], (at .0, (at .1 .0, (at .1 .1 .0, at .1 .1 .1 .1)))))), tt)
+  to-core v = ((core-lfts, (qs .0, qs .1 .1), tt, core-args, (v ∷ [], (vint w64 (length (now list)) ∷ [], (at .0, (at .1 .0, (at .1 .1 .0, (at .1 .1 .1 .0, at .1 .1 .1 .1 .1))))))), tt)
 
   abbrev Said : ℕ → Lasts core.ended core-lfts core-args → List ℕ → Type 0
-  Said r zs = Says (a .0) (a .1 .0) (now (a .1 .1 .0)) (now (a .1 .1 .1 .1 .0)) (now (a .1 .1 .1 .1 .1 .0)) (now (a .1 .1 .1 .1 .1 .1 .0)) (now (a .1 .1 .1 .1 .1 .1 .1 .0)) r (zs .1 .1 .1 .1 .1 .1 .0) (zs .1 .1 .1 .1 .1 .1 .1 .0) (zs .1 .1 .1 .1 .1 .1 .1 .1 .0) (zs .1 .1 .1 .1 .1 .1 .1 .1 .1 .0)
+  Said r zs = Says (a .0) (a .1 .0) (a .1 .1 .0) (now (a .1 .1 .1 .0)) (now (a .1 .1 .1 .1 .1 .0)) (now (a .1 .1 .1 .1 .1 .1 .0)) (now (a .1 .1 .1 .1 .1 .1 .1 .0)) (now (a .1 .1 .1 .1 .1 .1 .1 .1 .0)) r (zs .1 .1 .1 .1 .1 .1 .1 .0) (zs .1 .1 .1 .1 .1 .1 .1 .1 .0) (zs .1 .1 .1 .1 .1 .1 .1 .1 .1 .0) (zs .1 .1 .1 .1 .1 .1 .1 .1 .1 .1 .0)
 
   -- what it says, of the numbers handed on, is what the entry says, of the list flattened
   kept : (r : ℕ) (zs : Lasts core.ended core-lfts core-args) → ent 𝓤 (core.clauses 𝓤 H A mem run core-lfts core-args .ensures tt r (atExit core.ended core-lfts core-args zs))
       (entry.clauses 𝓤 H A mem run κs a .ensures tt r (atExit entry.ended κs a (zs .1)))
   kept r zs =
       via 𝓤 (fact 𝓤 (Said r zs (handed (gathered (now list)) (length (now list))))) (also 𝓤 _ _ (also 𝓤 _ _ (id⊢ 𝓤 _)))
-      (via 𝓤 (fact 𝓤 (Said r zs (flatOf (now list)))) (fact-mono 𝓤 _ _ (promised (a .0) (a .1 .0) (now (a .1 .1 .0)) (now (a .1 .1 .1 .1 .0)) (now (a .1 .1 .1 .1 .1 .0)) (now (a .1 .1 .1 .1 .1 .1 .0)) (now (a .1 .1 .1 .1 .1 .1 .1 .0)) r (zs .1 .1 .1 .1 .1 .1 .0) (zs .1 .1 .1 .1 .1 .1 .1 .0) (zs .1 .1 .1 .1 .1 .1 .1 .1 .0) (zs .1 .1 .1 .1 .1 .1 .1 .1 .1 .0) (now list))) (apart 𝓤 _ _ (apart 𝓤 _ _ (id⊢ 𝓤 _))))
+      (via 𝓤 (fact 𝓤 (Said r zs (flatOf (now list)))) (fact-mono 𝓤 _ _ (promised (a .0) (a .1 .0) (a .1 .1 .0) (now (a .1 .1 .1 .0)) (now (a .1 .1 .1 .1 .1 .0)) (now (a .1 .1 .1 .1 .1 .1 .0)) (now (a .1 .1 .1 .1 .1 .1 .1 .0)) (now (a .1 .1 .1 .1 .1 .1 .1 .1 .0)) r (zs .1 .1 .1 .1 .1 .1 .1 .0) (zs .1 .1 .1 .1 .1 .1 .1 .1 .0) (zs .1 .1 .1 .1 .1 .1 .1 .1 .1 .0) (zs .1 .1 .1 .1 .1 .1 .1 .1 .1 .1 .0) (now list))) (apart 𝓤 _ _ (apart 𝓤 _ _ (id⊢ 𝓤 _))))
 
   says : (r : ℕ) → ent 𝓤 (ensured 𝓤 H A core.ended (core.clauses 𝓤 H A mem run) core-lfts core-args tt r) (ensured 𝓤 H A entry.ended (entry.clauses 𝓤 H A mem run) κs a tt r)
   says r =
@@ -104,41 +104,41 @@ module _ {M : Type 1} (𝓤 : URA M) (H : Heap 𝓤) (A : Atoms 𝓤) (mem : Mem
   walk W C Λ fm known-gather known-core are =
       qed W (tokens 𝓤 7 κs qs ∷ ‵ (owns (typesAt (entry.signature .params) κs) a at) ∷ []) ∵ enter ! C Λ code.function (flat (typesAt (entry.signature .params) κs) at) _ $
       alloc1 ! (λ _. alloc1 ! (λ _. alloc1 ! (λ _. alloc1 ! (λ _. alloc1 ! (λ _. alloc1 ! (λ _. alloc1 ! (λ _. alloc1 ! (λ _. alloc1 ! (λ _. alloc1 ! (λ _.
-      alloc1 ! (λ _. alloc1 ! (λ _. alloc1 ! (λ _. alloc1 ! (λ _. alloc1 ! (λ _. alloc1 ! (λ _. alloc1 ! (λ _. alloc1 ! (λ _. alloc1 ! (λ _. alloc0 ! $ params1 ! $
-      pass1 ! (init ! 34 refl (tt, record { fits = are .0 .1 })) $ pass1 ! (init ! 32 refl (tt, record { fits = are .1 .0 .1 })) $
-      pass1 ! (init ! 30 refl (tt, (tt, (record { fits = are .1 .1 .0 .0 .1 .0 }, tt)))) $
-      pass1 ! (init ! 28 refl (tt, (tt, (record { fits = are .1 .1 .1 .0 .0 .1 .0 }, tt)))) $
-      pass1 ! (init ! 26 refl (tt, (tt, (record { fits = are .1 .1 .1 .1 .0 .0 .1 .0 }, tt)))) $
-      pass1 ! (init ! 24 refl (tt, (tt, (record { fits = are .1 .1 .1 .1 .1 .0 .0 .1 .0 }, tt)))) $
-      pass1 ! (init ! 22 refl (tt, (tt, (record { fits = are .1 .1 .1 .1 .1 .1 .0 .0 .1 .0 }, tt)))) $
-      pass1 ! (init ! 20 refl (tt, (tt, (record { fits = are .1 .1 .1 .1 .1 .1 .1 .0 .0 .1 .0 }, tt)))) $ pass1 ! (init ! 18 refl (tt, tt)) $ pass0 ! $
-      move ! (39 ∷ []) $ fsplit ! $ move ! (1 ∷ []) $ fsplit ! $ move ! (1 ∷ []) $ fsplit ! $ move ! (1 ∷ []) $ fsplit ! $ move ! (2 ∷ 1 ∷ []) $ fjoin ! $
-      move ! (2 ∷ 0 ∷ []) $ fjoin ! $ move ! (2 ∷ 0 ∷ []) $ fjoin ! $ move ! (40 ∷ []) $ split ! $ move ! (1 ∷ []) $ split ! $ move ! (2 ∷ 1 ∷ []) $ join ! $
-      nothing ! $ move ! (4 ∷ 0 ∷ []) $ fjoin ! $ move ! (2 ∷ 0 ∷ []) $
+      alloc1 ! (λ _. alloc1 ! (λ _. alloc1 ! (λ _. alloc1 ! (λ _. alloc1 ! (λ _. alloc1 ! (λ _. alloc1 ! (λ _. alloc1 ! (λ _. alloc1 ! (λ _. alloc1 ! (λ _. alloc0 ! $
+      params1 ! $ pass1 ! (init ! 36 refl (tt, record { fits = are .0 .1 })) $ pass1 ! (init ! 34 refl (tt, record { fits = are .1 .0 .1 })) $
+      pass1 ! (init ! 32 refl (tt, record { fits = are .1 .1 .0 .1 })) $ pass1 ! (init ! 30 refl (tt, (tt, (record { fits = are .1 .1 .1 .0 .0 .1 .0 }, tt)))) $
+      pass1 ! (init ! 28 refl (tt, (tt, (record { fits = are .1 .1 .1 .1 .0 .0 .1 .0 }, tt)))) $
+      pass1 ! (init ! 26 refl (tt, (tt, (record { fits = are .1 .1 .1 .1 .1 .0 .0 .1 .0 }, tt)))) $
+      pass1 ! (init ! 24 refl (tt, (tt, (record { fits = are .1 .1 .1 .1 .1 .1 .0 .0 .1 .0 }, tt)))) $
+      pass1 ! (init ! 22 refl (tt, (tt, (record { fits = are .1 .1 .1 .1 .1 .1 .1 .0 .0 .1 .0 }, tt)))) $
+      pass1 ! (init ! 20 refl (tt, (tt, (record { fits = are .1 .1 .1 .1 .1 .1 .1 .1 .0 .0 .1 .0 }, tt)))) $ pass1 ! (init ! 18 refl (tt, tt)) $ pass0 ! $
+      move ! (41 ∷ []) $ fsplit ! $ move ! (1 ∷ []) $ fsplit ! $ move ! (1 ∷ []) $ fsplit ! $ move ! (1 ∷ []) $ fsplit ! $ move ! (1 ∷ []) $ fsplit ! $
+      move ! (2 ∷ 1 ∷ []) $ fjoin ! $ move ! (2 ∷ 0 ∷ []) $ fjoin ! $ move ! (2 ∷ 0 ∷ []) $ fjoin ! $ move ! (2 ∷ 0 ∷ []) $ fjoin ! $ move ! (42 ∷ []) $ split ! $
+      move ! (1 ∷ []) $ split ! $ move ! (2 ∷ 1 ∷ []) $ join ! $ nothing ! $ move ! (4 ∷ 0 ∷ []) $ fjoin ! $ move ! (2 ∷ 0 ∷ []) $
       gathers 𝓤 H A mem run fm known-gather (κs .1 .0) (qs .1 .0) list (and-then ! (held ! 31 refl) (no-more !)) (λ v is.
       land ! (from ! (stop !)) (init ! 19 refl (LL.lawful F.the-type F′.the-laws 𝓤 H A W .typed (gathered (now list)) (v ∷ []) is .0)) $
-      assigns ! (of-opd ! (load ! (from ! (fld ! refl (stop !))) (look-in ! 31 (sub ! 1 refl (whole !))))) (from ! (stop !)) (init ! 17 refl (tt, record { fits = are .1 .1 .1 .0 .0 .1 .0 })) $
+      assigns ! (of-opd ! (load ! (from ! (fld ! refl (stop !))) (look-in ! 31 (sub ! 1 refl (whole !))))) (from ! (stop !)) (init ! 17 refl (tt, record { fits = are .1 .1 .1 .1 .0 .0 .1 .0 })) $
       assigns ! (addr ! (from ! (fld ! refl (hop ! (look-in ! 27 (sub ! 0 refl (whole !))) (stop !))))) (from ! (stop !)) (init ! 15 refl (tt, tt)) $
-      assigns ! (agg ! (and-then ! (held ! 15 refl) (and-then ! (load ! (from ! (fld ! refl (stop !))) (look-in ! 27 (sub ! 1 refl (whole !)))) (no-more !)))) (from ! (stop !)) (init ! 13 refl (tt, (tt, (record { fits = are .1 .1 .1 .1 .1 .0 .0 .1 .0 }, tt)))) $
+      assigns ! (agg ! (and-then ! (held ! 15 refl) (and-then ! (load ! (from ! (fld ! refl (stop !))) (look-in ! 27 (sub ! 1 refl (whole !)))) (no-more !)))) (from ! (stop !)) (init ! 13 refl (tt, (tt, (record { fits = are .1 .1 .1 .1 .1 .1 .0 .0 .1 .0 }, tt)))) $
       assigns ! (addr ! (from ! (fld ! refl (hop ! (look-in ! 25 (sub ! 0 refl (whole !))) (stop !))))) (from ! (stop !)) (init ! 11 refl (tt, tt)) $
-      assigns ! (agg ! (and-then ! (held ! 11 refl) (and-then ! (load ! (from ! (fld ! refl (stop !))) (look-in ! 25 (sub ! 1 refl (whole !)))) (no-more !)))) (from ! (stop !)) (init ! 9 refl (tt, (tt, (record { fits = are .1 .1 .1 .1 .1 .1 .0 .0 .1 .0 }, tt)))) $
+      assigns ! (agg ! (and-then ! (held ! 11 refl) (and-then ! (load ! (from ! (fld ! refl (stop !))) (look-in ! 25 (sub ! 1 refl (whole !)))) (no-more !)))) (from ! (stop !)) (init ! 9 refl (tt, (tt, (record { fits = are .1 .1 .1 .1 .1 .1 .1 .0 .0 .1 .0 }, tt)))) $
       assigns ! (addr ! (from ! (fld ! refl (hop ! (look-in ! 23 (sub ! 0 refl (whole !))) (stop !))))) (from ! (stop !)) (init ! 7 refl (tt, tt)) $
-      assigns ! (agg ! (and-then ! (held ! 7 refl) (and-then ! (load ! (from ! (fld ! refl (stop !))) (look-in ! 23 (sub ! 1 refl (whole !)))) (no-more !)))) (from ! (stop !)) (init ! 5 refl (tt, (tt, (record { fits = are .1 .1 .1 .1 .1 .1 .1 .0 .0 .1 .0 }, tt)))) $
+      assigns ! (agg ! (and-then ! (held ! 7 refl) (and-then ! (load ! (from ! (fld ! refl (stop !))) (look-in ! 23 (sub ! 1 refl (whole !)))) (no-more !)))) (from ! (stop !)) (init ! 5 refl (tt, (tt, (record { fits = are .1 .1 .1 .1 .1 .1 .1 .1 .0 .0 .1 .0 }, tt)))) $
       assigns ! (addr ! (from ! (hop ! (look ! 21 refl) (stop !)))) (from ! (stop !)) (init ! 3 refl (tt, tt)) $
-      owned ! usize (Is usize) (uint-makes 𝓤 H A W w64) (length (now list)) _ (refl, are .1 .1 .1 .0 .0 .1 .0) $
+      owned ! usize (Is usize) (uint-makes 𝓤 H A W w64) (length (now list)) _ (refl, are .1 .1 .1 .1 .0 .0 .1 .0) $
       owned ! F.the-row (Is F.the-row) (LL.makes F.the-type F′.the-plain 𝓤 H A) (gathered (now list)) _ is $ move ! (1 ∷ 4 ∷ []) $ fjoin ! $ move ! (1 ∷ 0 ∷ []) $
       fjoin ! $ move ! (2 ∷ 0 ∷ []) $
-      calls-on fm core.signature (core.spec 𝓤 H A mem run) known-core (to-core v) (id⊢ 𝓤 _) (and-then ! (held ! 18 refl) (and-then ! (held ! 16 refl) (and-then ! (held ! 36 refl) (and-then ! (held ! 34 refl) (and-then ! (held ! 32 refl) (and-then ! (held ! 28 refl) (and-then ! (held ! 12 refl) (and-then ! (held ! 8 refl) (and-then ! (held ! 4 refl) (and-then ! (held ! 2 refl) (no-more !))))))))))) (λ n r.
-      move ! (1 ∷ []) $ peeks ! u64 (Is u64) (shows 𝓤 H A u64) r (n ∷ []) (λ ok. land ! (from ! (stop !)) (init ! 40 refl (uint-lawful 𝓤 H A W w64 .typed r _ ok .0)) $
-      returns ! (look ! 40 refl) $
-      move ! (40 ∷ 41 ∷ 38 ∷ 39 ∷ 36 ∷ 37 ∷ 34 ∷ 35 ∷ 32 ∷ 33 ∷ 30 ∷ 31 ∷ 28 ∷ 29 ∷ 26 ∷ 27 ∷ 24 ∷ 25 ∷ 22 ∷ 23 ∷ 20 ∷ 21 ∷ 18 ∷ 19 ∷ 16 ∷ 17 ∷ 14 ∷ 15 ∷ 12 ∷ 13 ∷ 10 ∷ 11 ∷ 8 ∷ 9 ∷ 6 ∷ 7 ∷ 4 ∷ 5 ∷ []) $
-      frees-all ! (_ ∷ _ ∷ _ ∷ _ ∷ _ ∷ _ ∷ _ ∷ _ ∷ _ ∷ _ ∷ _ ∷ _ ∷ _ ∷ _ ∷ _ ∷ _ ∷ _ ∷ _ ∷ _ ∷ []) $ move ! (1 ∷ []) $ split ! $ move ! (4 ∷ 1 ∷ []) $ join ! $
-      move ! (1 ∷ 0 ∷ []) $ join ! $ join ! $ suffices ! _ (ends 𝓤 H A W entry.signature (entry.spec 𝓤 H A mem run) bound n r) $ frame ! $ by ! (says r)))))))))))))))))))))))
+      calls-on fm core.signature (core.spec 𝓤 H A mem run) known-core (to-core v) (id⊢ 𝓤 _) (and-then ! (held ! 18 refl) (and-then ! (held ! 16 refl) (and-then ! (held ! 38 refl) (and-then ! (held ! 36 refl) (and-then ! (held ! 34 refl) (and-then ! (held ! 32 refl) (and-then ! (held ! 28 refl) (and-then ! (held ! 12 refl) (and-then ! (held ! 8 refl) (and-then ! (held ! 4 refl) (and-then ! (held ! 2 refl) (no-more !)))))))))))) (λ n r.
+      move ! (1 ∷ []) $ peeks ! u64 (Is u64) (shows 𝓤 H A u64) r (n ∷ []) (λ ok. land ! (from ! (stop !)) (init ! 42 refl (uint-lawful 𝓤 H A W w64 .typed r _ ok .0)) $
+      returns ! (look ! 42 refl) $
+      move ! (42 ∷ 43 ∷ 40 ∷ 41 ∷ 38 ∷ 39 ∷ 36 ∷ 37 ∷ 34 ∷ 35 ∷ 32 ∷ 33 ∷ 30 ∷ 31 ∷ 28 ∷ 29 ∷ 26 ∷ 27 ∷ 24 ∷ 25 ∷ 22 ∷ 23 ∷ 20 ∷ 21 ∷ 18 ∷ 19 ∷ 16 ∷ 17 ∷ 14 ∷ 15 ∷ 12 ∷ 13 ∷ 10 ∷ 11 ∷ 8 ∷ 9 ∷ 6 ∷ 7 ∷ 4 ∷ 5 ∷ []) $
+      frees-all ! (_ ∷ _ ∷ _ ∷ _ ∷ _ ∷ _ ∷ _ ∷ _ ∷ _ ∷ _ ∷ _ ∷ _ ∷ _ ∷ _ ∷ _ ∷ _ ∷ _ ∷ _ ∷ _ ∷ _ ∷ []) $ move ! (1 ∷ []) $ split ! $ move ! (4 ∷ 1 ∷ []) $ join ! $
+      move ! (1 ∷ 0 ∷ []) $ join ! $ join ! $ suffices ! _ (ends 𝓤 H A W entry.signature (entry.spec 𝓤 H A mem run) bound n r) $ frame ! $ by ! (says r))))))))))))))))))))))))
 
 meets : {M : Type 1} (𝓤 : URA M) (H : Heap 𝓤) (A : Atoms 𝓤) (W : Given 𝓤 H A) (mem : Memory → SProp 𝓤) (run : Routine → Fun 𝓤) (𝓣 : Tables 𝓤 H)
     → Triple 𝓤 (𝓣 .C #gather) (Gather 𝓤 H A mem run) → Triple 𝓤 (𝓣 .C #core) (Core 𝓤 H A mem run) → Meets 𝓤 H A entry.signature (WpFn 𝓤 H (𝓣 .C) (𝓣 .Λ) code.function) (entry.spec 𝓤 H A mem run)
 meets 𝓤 H A W mem run 𝓣 known-gather known-core =
-    spelled 𝓤 H A entry.signature (entry.spec 𝓤 H A mem run) (WpFn 𝓤 H (𝓣 .C) (𝓣 .Λ) code.function) spells (λ κs. (λ x vs p. p .0, (λ x vs p. p .0, (λ x vs p. p .0 .0, (λ x vs p. p .0 .0, (λ x vs p. p .0 .0, (λ x vs p. p .0 .0, (λ x vs p. p .0 .0, (λ x vs p. p .0 .0, (λ x vs p. p .0, tt))))))))))
+    spelled 𝓤 H A entry.signature (entry.spec 𝓤 H A mem run) (WpFn 𝓤 H (𝓣 .C) (𝓣 .Λ) code.function) spells (λ κs. (λ x vs p. p .0, (λ x vs p. p .0, (λ x vs p. p .0, (λ x vs p. p .0 .0, (λ x vs p. p .0 .0, (λ x vs p. p .0 .0, (λ x vs p. p .0 .0, (λ x vs p. p .0 .0, (λ x vs p. p .0 .0, (λ x vs p. p .0, tt)))))))))))
     (λ κs qs bounds a g. walk 𝓤 H A mem run κs qs a W (𝓣 .C) (𝓣 .Λ) (fmOf 𝓤 H (W .laws) 𝓣) known-gather known-core)
 
 pub bt-study-records-spec : {M : Type 1} → stated.statement M

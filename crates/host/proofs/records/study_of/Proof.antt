@@ -29,7 +29,7 @@ returns c =
     let own = c .before .before .before .before .before .before .before .before .run in
     let put = c .put-study in
     subst
-    (λ (s : List ℕ). StudyIs (args .step) (args .first) (now (args .rain)) (now (args .pond)) (now (args .inflow)) (now (args .outflow)) (now (args .storage)) s (put .result) (own .last .1 .1 .1 .1 .0) (own .last .1 .1 .1 .1 .1 .0) (own .last .1 .1 .1 .1 .1 .1 .0) (put .last .1 .0))
+    (λ (s : List ℕ). StudyIs (args .step) (args .first) (args .rule) (now (args .rain)) (now (args .pond)) (now (args .inflow)) (now (args .outflow)) (now (args .storage)) s (put .result) (own .last .1 .1 .1 .1 .0) (own .last .1 .1 .1 .1 .1 .0) (own .last .1 .1 .1 .1 .1 .1 .0) (put .last .1 .0))
     (ap (λ (n : ℕ). take n (args .flat .numbers)) (c .before .before .before .before .before .before .before .before .before .before .before .before .before .used-by .ensures))
     (put .ensures .0 ∙ ap (λ (z : StudyAnswer). studyRefusalIn z .number) (own .ensures .0), (put .ensures .1 ∙ ap studyNumbersOf (own .ensures .0), own .ensures .1 .0))
 

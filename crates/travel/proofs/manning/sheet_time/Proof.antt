@@ -3,13 +3,14 @@ use lib.Dec.{lit≤}
 use native.Mathlib.Omega.{arith}
 use Rattle.laws.proofs.Num.{mul-fits}
 use Rattle.roots.proofs.Powers.{root-ok}
-use Rattle.travel.specs.TravelTime.{mostSheet, sheet}
+use Rattle.travel.specs.TravelTime.{sheet}
+use Rattle.travel.specs.Needs.{farthestSheet}
 use Rattle.travel.proofs.Roots.{in-room, span-factor, sheet-top, sheet-bottom, sheet-past, sheet-fits}
 use Rattle.travel.proofs.manning.sheet_time.Statement.{statement}
 use Rattle.travel.proofs.manning.sheet_time.Tie as tie
 
 span : tie.Need-mul-two-powers
-span c = mul-fits 999 mostSheet (c .pre .n-most) (c .pre .length-most) tt
+span c = mul-fits 999 farthestSheet (c .pre .n-most) (c .pre .length-most) tt
 
 top : tie.Need-two-powers-requires
 top c κs =
