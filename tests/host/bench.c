@@ -26,7 +26,7 @@ static struct inputs manning, given;
 /* 24 hours in steps of 180 seconds, most of the rain about noon; four subareas of 15 weights. */
 static void typical_site(struct site *s, struct prng *r)
 {
-    *s = (struct site){ .step = 180, .first = 1 };
+    *s = (struct site){ .step = 180, .first = 1, .rule = BT_RULE_TR55 };
     set_rows(s, 480);
     s->rain.len = 481;
     for (size_t t = 1; t <= 480; t++)

@@ -58,9 +58,9 @@ void lend_mark(struct call *c, const struct mark *m, bool tight)
 
 void engine_study(struct call *c, const struct site *s)
 {
-    c->gave = bt_study(s->step, s->first, c->rain.at, c->rain.len, c->subareas.at, c->subareas.len, c->pond.at,
-                       c->pond.len, c->inflow.at, c->inflow.len, c->outflow.at, c->outflow.len, c->storage.at,
-                       c->storage.len, c->answer.at);
+    c->gave = bt_study(s->step, s->first, s->rule, c->rain.at, c->rain.len, c->subareas.at, c->subareas.len,
+                       c->pond.at, c->pond.len, c->inflow.at, c->inflow.len, c->outflow.at, c->outflow.len,
+                       c->storage.at, c->storage.len, c->answer.at);
 }
 
 static const bt_subarea *records(const struct call *c)
@@ -70,29 +70,29 @@ static const bt_subarea *records(const struct call *c)
 
 void engine_study_records(struct call *c, const struct site *s)
 {
-    c->gave = bt_study_records(s->step, s->first, c->rain.at, c->rain.len, records(c), c->subareas.len / BT_WIDTH,
-                               c->pond.at, c->pond.len, c->inflow.at, c->inflow.len, c->outflow.at, c->outflow.len,
-                               c->storage.at, c->storage.len, c->answer.at);
+    c->gave = bt_study_records(s->step, s->first, s->rule, c->rain.at, c->rain.len, records(c),
+                               c->subareas.len / BT_WIDTH, c->pond.at, c->pond.len, c->inflow.at, c->inflow.len,
+                               c->outflow.at, c->outflow.len, c->storage.at, c->storage.len, c->answer.at);
 }
 
 void plainly_study(struct call *c, const struct site *s)
 {
-    c->gave = plain_study(s->step, s->first, c->rain.at, c->rain.len, c->subareas.at, c->subareas.len, c->pond.at,
-                          c->pond.len, c->inflow.at, c->inflow.len, c->outflow.at, c->outflow.len, c->storage.at,
-                          c->storage.len, c->answer.at);
+    c->gave = plain_study(s->step, s->first, s->rule, c->rain.at, c->rain.len, c->subareas.at, c->subareas.len,
+                          c->pond.at, c->pond.len, c->inflow.at, c->inflow.len, c->outflow.at, c->outflow.len,
+                          c->storage.at, c->storage.len, c->answer.at);
 }
 
 void study_due(struct result *r, const struct site *s)
 {
-    r->gave = reference_study(s->step, s->first, s->rain.at, s->rain.len, s->subareas.at, s->subareas.len, s->pond.at,
-                              s->pond.len, r->rows.inflow, s->inflow, r->rows.outflow, s->outflow, r->rows.storage,
-                              s->storage, r->answer);
+    r->gave = reference_study(s->step, s->first, s->rule, s->rain.at, s->rain.len, s->subareas.at, s->subareas.len,
+                              s->pond.at, s->pond.len, r->rows.inflow, s->inflow, r->rows.outflow, s->outflow,
+                              r->rows.storage, s->storage, r->answer);
 }
 
 void engine_edit(struct call *c, const struct edit *e)
 {
     const struct site *s = &e->site;
-    c->gave = bt_edit(s->step, s->first, c->rain.at, c->rain.len, c->subareas.at, c->subareas.len, c->pond.at,
+    c->gave = bt_edit(s->step, s->first, s->rule, c->rain.at, c->rain.len, c->subareas.at, c->subareas.len, c->pond.at,
                       c->pond.len, c->inflow.at, c->inflow.len, c->outflow.at, c->outflow.len, c->storage.at,
                       c->storage.len, e->place, c->fresh.at, c->answer.at, (int64_t *)c->changes.at);
 }
@@ -100,27 +100,28 @@ void engine_edit(struct call *c, const struct edit *e)
 void engine_edit_records(struct call *c, const struct edit *e)
 {
     const struct site *s = &e->site;
-    c->gave = bt_edit_records(s->step, s->first, c->rain.at, c->rain.len, records(c), c->subareas.len / BT_WIDTH,
-                              c->pond.at, c->pond.len, c->inflow.at, c->inflow.len, c->outflow.at, c->outflow.len,
-                              c->storage.at, c->storage.len, e->place, c->fresh.at, c->answer.at,
-                              (int64_t *)c->changes.at);
+    c->gave = bt_edit_records(s->step, s->first, s->rule, c->rain.at, c->rain.len, records(c),
+                              c->subareas.len / BT_WIDTH, c->pond.at, c->pond.len, c->inflow.at, c->inflow.len,
+                              c->outflow.at, c->outflow.len, c->storage.at, c->storage.len, e->place, c->fresh.at,
+                              c->answer.at, (int64_t *)c->changes.at);
 }
 
 void plainly_edit(struct call *c, const struct edit *e)
 {
     const struct site *s = &e->site;
-    c->gave = plain_edit(s->step, s->first, c->rain.at, c->rain.len, c->subareas.at, c->subareas.len, c->pond.at,
-                         c->pond.len, c->inflow.at, c->inflow.len, c->outflow.at, c->outflow.len, c->storage.at,
-                         c->storage.len, e->place, c->fresh.at, c->answer.at, (int64_t *)c->changes.at);
+    c->gave = plain_edit(s->step, s->first, s->rule, c->rain.at, c->rain.len, c->subareas.at, c->subareas.len,
+                         c->pond.at, c->pond.len, c->inflow.at, c->inflow.len, c->outflow.at, c->outflow.len,
+                         c->storage.at, c->storage.len, e->place, c->fresh.at, c->answer.at,
+                         (int64_t *)c->changes.at);
 }
 
 void edit_due(struct result *r, const struct edit *e)
 {
     const struct site *s = &e->site;
     r->rows = e->found;
-    r->gave = reference_edit(s->step, s->first, s->rain.at, s->rain.len, s->subareas.at, s->subareas.len, s->pond.at,
-                             s->pond.len, r->rows.inflow, s->inflow, r->rows.outflow, s->outflow, r->rows.storage,
-                             s->storage, e->place, e->fresh, r->answer, r->changes);
+    r->gave = reference_edit(s->step, s->first, s->rule, s->rain.at, s->rain.len, s->subareas.at, s->subareas.len,
+                             s->pond.at, s->pond.len, r->rows.inflow, s->inflow, r->rows.outflow, s->outflow,
+                             r->rows.storage, s->storage, e->place, e->fresh, r->answer, r->changes);
 }
 
 void engine_mark(struct call *c, const struct mark *m)

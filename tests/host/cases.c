@@ -24,7 +24,7 @@ static void take_with(const char *kind, struct site *s, u64 *at, u64 value)
    water is in by row 6 where Tc is 360. */
 static void lone_site(struct site *s)
 {
-    *s = (struct site){ .step = 212, .first = 1 };
+    *s = (struct site){ .step = 212, .first = 1, .rule = BT_RULE_TR55 };
     set_rows(s, 8);
     pour(s, BT_MOST_RISE);
     s->subareas.len = BT_WIDTH;
@@ -62,6 +62,7 @@ static void every_number(struct site *s)
 {
     spoil_number_in_turn("the step spoilt", s, &s->step);
     spoil_number_in_turn("the first row number spoilt", s, &s->first);
+    spoil_number_in_turn("the sheet rule spoilt", s, &s->rule);
     spoil_list_in_turn("a rain entry spoilt", s, &s->rain);
     spoil_list_in_turn("a number of a subarea spoilt", s, &s->subareas);
     spoil_list_in_turn("a number of the pond spoilt", s, &s->pond);
@@ -117,7 +118,7 @@ static void segment_limits(struct site *s, u64 *segment)
     memcpy(was, segment, sizeof was);
     for (u64 kind = BT_SEGMENT_UNPAVED; kind <= BT_SEGMENT_CHANNEL; kind++)
         for (size_t i = 0; i < BT_SEGMENT_WIDTH; i++) {
-            struct range ends = segment_range(kind, i);
+            struct range ends = segment_range(s->rule, kind, i);
             struct field f = { SEGMENT[i], i, ends.least, ends.most };
             set_segment(segment, GOOD_SEGMENT[kind]);
             at_limits(&f, s, segment + i);
@@ -145,12 +146,18 @@ static void record_limits(struct site *s)
     }
 }
 
+static void record_limits_by_rules(struct site *s)
+{
+    for (s->rule = BT_RULE_TR55; s->rule <= BT_RULE_WINTR55; s->rule++)
+        record_limits(s);
+}
+
 static void record_limits_of_two_sites(struct site *s, struct prng *r)
 {
     plain_site(s, r, 5, 7);
-    record_limits(s);
+    record_limits_by_rules(s);
     lone_site(s);
-    record_limits(s);
+    record_limits_by_rules(s);
 }
 
 /* Kinds 1 to 3 with lengths and rates at the ends. */
@@ -174,7 +181,7 @@ static void take_time(const char *kind, struct site *s)
 {
     u64 *record = record_at(s, 0);
     record[BT_SEGMENT_COUNT] = 1;
-    if (reference_list_refusal(s->step, record, BT_WIDTH).number != 0) {
+    if (reference_list_refusal(s->step, s->rule, record, BT_WIDTH).number != 0) {
         take_study(kind, s);
         return;
     }
@@ -195,7 +202,7 @@ static void manning_corners(struct site *s)
         for (unsigned which = 0; which < 256; which++) { /* two bits for each number */
             segment[BT_KIND_AT] = kind;
             for (size_t i = 0; i < 4; i++) {
-                u64 most = segment_range(kind, BT_LENGTH_AT + i).most;
+                u64 most = segment_range(s->rule, kind, BT_LENGTH_AT + i).most;
                 const u64 values[] = { 1, 2, most - 1, most };
                 segment[BT_LENGTH_AT + i] = values[which >> 2 * i & 3];
             }
@@ -238,7 +245,7 @@ static void times_at_random(struct site *s, struct prng *r)
     lone_site(s);
     u64 *segment = segment_at(record_at(s, 0), 0);
     for (u64 i = 0; i < 3000; i++) {
-        random_segment(segment, BT_SEGMENT_UNPAVED + i % BT_SEGMENT_CHANNEL, r);
+        random_segment(s->rule, segment, BT_SEGMENT_UNPAVED + i % BT_SEGMENT_CHANNEL, r);
         take_time("a segment's time", s);
         (i % 2 == 0 ? exact_sheet : exact_channel)(segment, r);
         take_time("an exact time", s);
@@ -324,6 +331,78 @@ static void spare_numbers(struct site *s)
                 memcpy(segment + BT_SEGMENT_WIDTH - 2, values[j], sizeof values[j]);
                 take_site("spare numbers", s);
             }
+}
+
+/* ---- The sheet rule */
+
+/* In every subarea; where the length is 0, in none. */
+static void set_all_sheets(struct site *s, u64 length)
+{
+    for (size_t i = 0; i < subarea_count(s); i++)
+        if (length == 0)
+            set_segment(segment_at(record_at(s, i), 0), GOOD_SEGMENT[BT_SEGMENT_CHANNEL]);
+        else
+            set_sheet(record_at(s, i), length);
+}
+
+/* It is asked for also where no sheet segment goes by it. Some are 1 or 2 in their lower 32 bits. */
+static void rules(struct site *s, struct prng *r)
+{
+    static const u64 lengths[] = { 0, 50, 100, 101, 300 };
+    const u64 values[] = { 0, 1, 2, 3, 4, 100, 300, 4294967296, 4294967297, 4294967298, (u64)1 << 63, MOST - 1, MOST };
+    for (size_t i = 0; i < COUNT(lengths); i++) {
+        plain_site(s, r, 5, 7);
+        set_all_sheets(s, lengths[i]);
+        for (size_t j = 0; j < COUNT(values); j++)
+            take_with("a sheet rule", s, &s->rule, values[j]);
+    }
+}
+
+/* Sheet flow in one subarea, on both sides of both limits. */
+static void sheet_lengths(struct site *s, struct prng *r)
+{
+    static const u64 lengths[] = { 0,   1,   99,  100,  101,  102,        199,        200,
+                                   299, 300, 301, 4000, 4001, 4294967396, 4294967596, UINT64_MAX };
+    for (u64 rule = BT_RULE_TR55; rule <= BT_RULE_WINTR55; rule++)
+        for (int where = 0; where < 3; where++) {
+            plain_site(s, r, 5, 7);
+            s->rule = rule;
+            set_all_sheets(s, 0);
+            for (size_t i = 0; i < COUNT(lengths); i++) {
+                set_sheet(record_at(s, place(where, 5)), lengths[i]);
+                take_site("a sheet's length", s);
+            }
+        }
+}
+
+/* Two lengths in two subareas, in both orders: the first that is too long is charged. */
+static void two_sheets(struct site *s, struct prng *r)
+{
+    static const u64 lengths[][2] = { { 101, 300 }, { 100, 101 }, { 101, 301 }, { 300, 301 } };
+    for (size_t one = 0; one < 5; one++)
+        for (size_t two = 0; two < 5; two++)
+            for (size_t i = 0; i < COUNT(lengths) && one != two; i++) {
+                plain_site(s, r, 5, 7);
+                set_sheet(record_at(s, one), lengths[i][0]);
+                set_sheet(record_at(s, two), lengths[i][1]);
+                for (s->rule = BT_RULE_TR55; s->rule <= BT_RULE_WINTR55; s->rule++)
+                    take_site("two sheets", s);
+            }
+}
+
+/* 101 ft by rule 2: only a sheet segment that is read is too long, and it must be first in any case. */
+static void lengths_beside(struct site *s, struct prng *r)
+{
+    for (u64 kind = BT_SEGMENT_UNPAVED; kind <= BT_SEGMENT_CHANNEL; kind++)
+        for (size_t i = 0; i < BT_MOST_SEGMENTS; i++) {
+            plain_site(s, r, 3, 7);
+            s->rule = BT_RULE_WINTR55;
+            u64 *record = record_at(s, 1), *segment = segment_at(record, i);
+            set_segment(segment, GOOD_SEGMENT[kind]);
+            segment[BT_LENGTH_AT] = 101;
+            take_site("a kind's length by the rule of sheet flow", s);
+            take_with("a length past the count", s, &record[BT_SEGMENT_COUNT], i);
+        }
 }
 
 /* ---- Step, first row number */
@@ -714,7 +793,7 @@ static void storm_site(struct site *s, struct prng *r)
 static void rows_of(const struct site *s, u64 *inflow, u64 *outflow, u64 *storage)
 {
     u64 answer[BT_ANSWER_LENGTH];
-    reference_study(s->step, s->first, s->rain.at, s->rain.len, s->subareas.at, s->subareas.len, s->pond.at,
+    reference_study(s->step, s->first, s->rule, s->rain.at, s->rain.len, s->subareas.at, s->subareas.len, s->pond.at,
                     s->pond.len, inflow, s->inflow, outflow, s->outflow, storage, s->storage, answer);
 }
 
@@ -837,7 +916,8 @@ void chosen_cases(u64 seed)
         every_number_of_three_sites, record_limits_of_two_sites, times_at_random, steps, first_numbers,
         row_lengths, rain_lengths, subarea_lengths, pond_lengths, rain_entries, total_areas, concentrations, peaks,
         weights_at_random, drizzle, runoffs_at_random, pond_limits, greatest_pond, pond_storages, full_ponds,
-        close_lines, two_faults, every_fault_from_one_on, row_counts, rain_rises, kinds, sheet_places,
+        close_lines, two_faults, every_fault_from_one_on, row_counts, rain_rises, kinds, sheet_places, rules,
+        sheet_lengths, two_sheets, lengths_beside,
     };
     for (size_t i = 0; i < COUNT(plain); i++) {
         s = (struct site){ 0 };

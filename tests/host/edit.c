@@ -109,7 +109,7 @@ void hostile_fresh(struct edit *e, struct prng *r)
     switch (below(r, 4)) {
     case 0: spoil_time(&e->site, e->fresh, r); break;
     case 1: fill_area(e, r); break;
-    default: spoil_record(e->fresh, r); break;
+    default: spoil_record(&e->site, e->fresh, r); break;
     }
 }
 

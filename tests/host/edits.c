@@ -134,7 +134,7 @@ static void fresh_segment_limits(struct edit *e, u64 *segment)
     for (u64 kind = BT_SEGMENT_UNPAVED; kind <= BT_SEGMENT_CHANNEL; kind++)
         for (size_t i = 0; i < BT_SEGMENT_WIDTH; i++) {
             set_segment(segment, GOOD_SEGMENT[kind]);
-            at_limits("a segment of the new record", e, segment + i, segment_range(kind, i));
+            at_limits("a segment of the new record", e, segment + i, segment_range(e->site.rule, kind, i));
         }
     set_segment(segment, was);
 }
@@ -151,16 +151,22 @@ static void fresh_limits(struct edit *e)
     }
 }
 
+static void fresh_limits_by_rules(struct edit *e)
+{
+    for (e->site.rule = BT_RULE_TR55; e->site.rule <= BT_RULE_WINTR55; e->site.rule++)
+        fresh_limits(e);
+}
+
 static void fresh_records(struct edit *e, struct prng *r)
 {
     for (int where = 0; where < 3; where++) {
         start_edit(e, r, 5, where);
         fresh_numbers(e);
-        fresh_limits(e);
+        fresh_limits_by_rules(e);
     }
     start_edit(e, r, 1, 0);
     fresh_numbers(e);
-    fresh_limits(e);
+    fresh_limits_by_rules(e);
 }
 
 /* ---- The new record, the study's limits */
@@ -432,18 +438,25 @@ static void first_kinds(struct edit *e, struct prng *r)
 }
 
 /* One number of the first segment changed by a little or by much, also a spare one: then no row changes. */
-static void segment_numbers(struct edit *e, struct prng *r)
+static void segment_numbers_by(struct edit *e, struct prng *r, u64 rule)
 {
     for (u64 kind = BT_SEGMENT_UNPAVED; kind <= BT_SEGMENT_CHANNEL; kind++)
         for (size_t i = BT_LENGTH_AT; i < BT_SEGMENT_WIDTH; i++) {
             start_first(e, r, (int)i % 3, kind, kind);
-            u64 *at = &segment_at(e->fresh, 0)[i], good = *at;
-            const u64 values[] = { good - 1, good + 1, good / 2, good + good / 2, segment_range(kind, i).most };
+            e->site.rule = rule;
+            u64 *at = &segment_at(e->fresh, 0)[i], good = *at, most = segment_range(rule, kind, i).most;
+            const u64 values[] = { good - 1, good + 1, good / 2, good + good / 2, most };
             for (size_t j = 0; j < COUNT(values); j++) {
                 *at = values[j];
                 take_from_study("one number of a segment", e);
             }
         }
+}
+
+static void segment_numbers(struct edit *e, struct prng *r)
+{
+    segment_numbers_by(e, r, BT_RULE_TR55);
+    segment_numbers_by(e, r, BT_RULE_WINTR55);
 }
 
 /* The old record, and a sheet segment put in before its segment i. */
@@ -482,6 +495,87 @@ static void standing_sheets(struct edit *e, struct prng *r)
         }
 }
 
+/* ---- The sheet rule */
+
+/* Rows that stand by either, with sheet flow in every subarea and in the new record, or in none. */
+static void rules(struct edit *e, struct prng *r)
+{
+    static const u64 first[] = { BT_SEGMENT_CHANNEL, BT_SEGMENT_SHEET };
+    const u64 values[] = { 0, 1, 2, 3, 4, 100, 300, 4294967296, 4294967297, 4294967298, (u64)1 << 63, MOST - 1, MOST };
+    for (size_t f = 0; f < COUNT(first); f++)
+        for (int where = 0; where < 3; where++) {
+            start_edit(e, r, 3, where);
+            for (size_t i = 0; i < 3; i++)
+                set_segment(segment_at(record_at(&e->site, i), 0), GOOD_SEGMENT[first[f]]);
+            set_segment(segment_at(e->fresh, 0), GOOD_SEGMENT[first[f]]);
+            stand(e);
+            for (size_t i = 0; i < COUNT(values); i++)
+                take_with("a sheet rule", e, &e->site.rule, values[i]);
+        }
+}
+
+/* The new record's, on rows whose own sheets are short. */
+static void fresh_sheets(struct edit *e, struct prng *r)
+{
+    static const u64 lengths[] = { 0, 1, 99, 100, 101, 102, 200, 299, 300, 301, 4000, 4294967396, UINT64_MAX };
+    for (u64 rule = BT_RULE_TR55; rule <= BT_RULE_WINTR55; rule++)
+        for (int where = 0; where < 3; where++) {
+            start_edit(e, r, 5, where);
+            e->site.rule = rule;
+            for (size_t i = 0; i < COUNT(lengths); i++) {
+                set_sheet(e->fresh, lengths[i]);
+                take_from_study("a sheet's length", e);
+            }
+        }
+}
+
+/* One that stands in the list is refused at its own place, whichever place is edited, also where the new record would
+   take it away. The rows are those that rule 1 left, where it lets them be. */
+static void standing_lengths(struct edit *e, struct prng *r)
+{
+    static const u64 lengths[] = { 100, 101, 300, 301 };
+    for (size_t i = 0; i < COUNT(lengths); i++)
+        for (int where = 0; where < 3; where++)
+            for (size_t at = 0; at < 3; at++) {
+                start_edit(e, r, 3, where);
+                set_sheet(record_at(&e->site, at), lengths[i]);
+                e->site.rule = BT_RULE_TR55;
+                stand(e);
+                take_edit("a sheet's length in the list", e);
+                take_with("a sheet's length in the list", e, &e->site.rule, BT_RULE_WINTR55);
+                set_sheet(e->fresh, 301);
+                take_edit("a sheet's length in the list, and another", e);
+                take_with("a sheet's length in the list, and another", e, &e->site.rule, BT_RULE_WINTR55);
+            }
+}
+
+/* Rows that one rule left, edited by the other. It is no breach: the edit answers by its own rule, as a new study by
+   that one does; where both let the new record pass, no row is other than a new study's by the first. */
+static void edit_by_other(struct edit *e, u64 length)
+{
+    u64 figures[BT_ANSWER_LENGTH], was = e->site.rule;
+    memcpy(figures, take_study("rows of one rule", &e->site)->answer, sizeof figures);
+    set_sheet(e->fresh, length);
+    take_standing("edited by that rule", e, figures);
+    e->site.rule = was == BT_RULE_TR55 ? BT_RULE_WINTR55 : BT_RULE_TR55;
+    const struct result *due = take_standing("edited by the other rule", e, figures);
+    if (due->gave == 0 && length <= 100)
+        take_standing_by("edited by the other rule, held to the first", e, figures, was);
+    e->site.rule = was;
+}
+
+static void other_rules(struct edit *e, struct prng *r)
+{
+    static const u64 lengths[] = { 50, 100, 101, 300, 301 };
+    for (u64 was = BT_RULE_TR55; was <= BT_RULE_WINTR55; was++)
+        for (int where = 0; where < 3; where++)
+            for (size_t i = 0; i < COUNT(lengths); i++) {
+                start_edit(e, r, 5, where);
+                e->site.rule = was;
+                edit_by_other(e, lengths[i]);
+            }
+}
+
 /* ---- Two faults at once, in the order of an edit */
 
 static void fault_place(struct edit *e, int where)
@@ -496,6 +590,7 @@ static void fault_fresh(struct edit *e, int number, int where)
     other = e->site;
     fault_of(&other, number, where);
     e->site.step = other.step;
+    e->site.rule = other.rule;
     memcpy(e->fresh, record_at(&other, place(where, 5)), sizeof e->fresh);
 }
 
@@ -522,7 +617,7 @@ static void fault_full(struct edit *e, int where)
 
 enum { FRESH = 100 }; /* 6 to 11 of the new record stand as 106 to 111 */
 
-static const int ORDER[] = { 1,  2,   3,   19,  4,   5,   15,  6,  7,  8,  9,  10,
+static const int ORDER[] = { 1,  2,   20,  3,   19,  4,   5,   15, 6,  7,  8,  9, 10,
                              11, 106, 107, 108, 109, 110, 111, 12, 13, 16, 17, 14 };
 
 static void make_fault(struct edit *e, int number, int where)
@@ -572,6 +667,7 @@ void chosen_edits(u64 seed)
         same_records, dry_records,   places,             fresh_records, fresh_areas,    fresh_times,
         found_rows,   order_of_rows, first_changed_rows, states_before, rows_that_meet, full_tails,
         two_faults,   every_fault_from_one_on, rises, first_kinds, segment_numbers, sheet_places, standing_sheets,
+        rules,        fresh_sheets,            standing_lengths, other_rules,
     };
     for (size_t i = 0; i < COUNT(all); i++) {
         struct prng r = prng_of(seed, 1000 + i);

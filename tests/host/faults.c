@@ -15,6 +15,11 @@ static void fault_step(struct site *s, int where)
     s->step = where == 0 ? 58 : where == 1 ? s->step + 1 : 3602;
 }
 
+static void fault_rule(struct site *s, int where)
+{
+    s->rule = where == 0 ? 0 : where == 1 ? BT_RULE_WINTR55 + 1 : UINT64_MAX;
+}
+
 static void fault_rain(struct site *s, int where)
 {
     size_t t = place(where, s->rain.len);
@@ -48,12 +53,14 @@ static void fault_patch(struct site *s, int where)
 static void fault_segment(struct site *s, int where)
 {
     u64 *record = record_at(s, place(where, 5));
-    if (where == 0)
+    if (where == 0) {
         record[BT_SEGMENT_COUNT] = 0;
-    else if (where == 1)
-        segment_at(record, 0)[BT_LENGTH_AT] = 4001;
-    else
+    } else if (where == 1) {
+        s->rule = BT_RULE_WINTR55;
+        set_sheet(record, 101);
+    } else {
         set_segment(segment_at(record, 1), GOOD_SEGMENT[BT_SEGMENT_SHEET]);
+    }
 }
 
 static void fault_area(struct site *s, int where)
@@ -109,6 +116,7 @@ static void fault_full(struct site *s, int where)
 const struct fault FAULTS[STUDY_FAULTS] = {
     { BT_REFUSED_ROWS, fault_rows },
     { BT_REFUSED_STEP, fault_step },
+    { BT_REFUSED_RULE, fault_rule },
     { BT_REFUSED_RAIN, fault_rain },
     { BT_REFUSED_RISE, fault_rise },
     { BT_REFUSED_ROW_NUMBERS, fault_last_number },

@@ -10,7 +10,7 @@ struct fault {
     void (*make)(struct site *s, int where);
 };
 
-enum { STUDY_FAULTS = 15 };
+enum { STUDY_FAULTS = 16 };
 
 extern const struct fault FAULTS[STUDY_FAULTS]; /* in the order of a study */
 

@@ -104,7 +104,7 @@ static struct refusal refusal_of_path(const u64 (*segments)[BT_SEGMENT_WIDTH], s
 {
     u64 record[BT_WIDTH] = { 1, 4, 1, 1, [BT_SEGMENT_COUNT] = count };
     memcpy(record + BT_SEGMENTS, segments, count * sizeof *segments);
-    struct refusal r = reference_list_refusal(60, record, BT_WIDTH);
+    struct refusal r = reference_list_refusal(60, BT_RULE_TR55, record, BT_WIDTH);
     *concentration = r.number == BT_REFUSED_SEGMENTS ? 0 : reference_concentration(record);
     return r;
 }
@@ -165,8 +165,8 @@ static u64 refusal_of(u64 step, u64 concentration, u64 discharge, u64 first)
     const u64 rain[] = { 0, 2 }, pond[] = { 0, 0, 0, 1000, 9000, discharge };
     u64 record[BT_WIDTH] = { 1, 4, 1, 1 }, inflow, outflow, storage, answer[BT_ANSWER_LENGTH];
     set_concentration(record, concentration);
-    return reference_study(step, first, rain, 2, record, BT_WIDTH, pond, 6, &inflow, 1, &outflow, 1, &storage, 1,
-                           answer);
+    return reference_study(step, first, BT_RULE_TR55, rain, 2, record, BT_WIDTH, pond, 6, &inflow, 1, &outflow, 1,
+                           &storage, 1, answer);
 }
 
 /* ---- Half the step in Tp: docs/DECISIONS.md, request Q-3 */
@@ -212,12 +212,14 @@ static void row_from_before(void)
     set_concentration(old, 360);
     set_concentration(fresh, 360);
     figure("an edit of a row without h in its Tp",
-           reference_edit(60, 1, rain, 2, old, BT_WIDTH, POND, 6, &inflow, 1, &outflow, 1, &storage, 1, 1, fresh, answer,
-                          changes),
+           reference_edit(60, 1, BT_RULE_TR55, rain, 2, old, BT_WIDTH, POND, 6, &inflow, 1, &outflow, 1, &storage, 1, 1,
+                          fresh, answer, changes),
            0);
     figure("its total inflow", answer[BT_INFLOW], 6116);
     figure("a study of the altered list",
-           reference_study(60, 1, rain, 2, fresh, BT_WIDTH, POND, 6, &inflow, 1, &outflow, 1, &storage, 1, answer), 0);
+           reference_study(60, 1, BT_RULE_TR55, rain, 2, fresh, BT_WIDTH, POND, 6, &inflow, 1, &outflow, 1, &storage, 1,
+                           answer),
+           0);
     figure("its total inflow", answer[BT_INFLOW], 5132);
 }
 
@@ -236,7 +238,8 @@ static u64 refusal_of_rain(const u64 *rain, size_t entries, u64 *place)
     static const u64 pond[] = { 0, 0, 0, 1000, 1000000, 0 };
     u64 record[BT_WIDTH] = { 1, 4, 1, 1 }, rows[3][3], answer[BT_ANSWER_LENGTH];
     set_concentration(record, 360);
-    reference_study(60, 1, rain, entries, record, BT_WIDTH, pond, 6, rows[0], 3, rows[1], 3, rows[2], 3, answer);
+    reference_study(60, 1, BT_RULE_TR55, rain, entries, record, BT_WIDTH, pond, 6, rows[0], 3, rows[1], 3, rows[2], 3,
+                    answer);
     *place = answer[BT_PLACE];
     return answer[BT_REFUSAL];
 }
@@ -255,6 +258,133 @@ static void rises(void)
     figure("its place", place, 3);
 }
 
+/* ---- Sheet rules: request Q-4 */
+
+/* Two roofs, the second with sheet flow of a length, or none where it is 0, and all that is lent beside them. */
+struct roofs {
+    u64 step, first, rule, rain, list[2 * BT_WIDTH];
+    size_t subareas, rows; /* rows of inflow; the other two lists have 3 */
+    u64 inflow[3], outflow[3], storage[3];
+    u64 answer[BT_EDIT_ANSWER_LENGTH];
+};
+
+static const u64 ROOF_POND[] = { 0, 0, 0, 1000, 100000000, 1000 };
+
+static void set_roof(u64 *record, u64 length)
+{
+    static const u64 roof[] = { 1, 4, 1, 100 };
+    memset(record, 0, BT_WIDTH * sizeof *record);
+    memcpy(record, roof, sizeof roof);
+    set_concentration(record, 360);
+    if (length != 0)
+        set_sheet(record, length);
+}
+
+static struct roofs roofs_of(u64 rule, u64 length)
+{
+    struct roofs s = { .step = 60, .first = 1, .rule = rule, .rain = 3000, .subareas = 2, .rows = 3 };
+    set_roof(s.list, 0);
+    set_roof(s.list + BT_WIDTH, length);
+    return s;
+}
+
+static u64 study_roofs(struct roofs *s)
+{
+    const u64 rain[] = { 0, s->rain };
+    return reference_study(s->step, s->first, s->rule, rain, 2, s->list, s->subareas * BT_WIDTH, ROOF_POND, 6,
+                           s->inflow, s->rows, s->outflow, 3, s->storage, 3, s->answer);
+}
+
+static u64 edit_roofs(struct roofs *s, u64 place, u64 length)
+{
+    const u64 rain[] = { 0, s->rain };
+    u64 fresh[BT_WIDTH];
+    int64_t changes[BT_CHANGES_LENGTH];
+    set_roof(fresh, length);
+    return reference_edit(s->step, s->first, s->rule, rain, 2, s->list, s->subareas * BT_WIDTH, ROOF_POND, 6, s->inflow,
+                          s->rows, s->outflow, 3, s->storage, 3, place, fresh, s->answer, changes);
+}
+
+static void sheet_limits(void)
+{
+    static const struct {
+        u64 rule, length, refusal, place;
+    } cases[] = {
+        { 1, 100, 0, 0 }, { 1, 101, 0, 0 }, { 1, 300, 0, 0 }, { 1, 301, 7, 2 },
+        { 2, 100, 0, 0 }, { 2, 101, 7, 2 }, { 2, 300, 7, 2 }, { 2, 301, 7, 2 },
+        { 0, 0, 20, 0 },  { 1, 0, 0, 0 },   { 2, 0, 0, 0 },   { 3, 0, 20, 0 },  { UINT64_MAX, 0, 20, 0 },
+        { 0, 50, 20, 0 }, { 1, 50, 0, 0 },  { 2, 50, 0, 0 },  { 3, 50, 20, 0 }, { UINT64_MAX, 50, 20, 0 },
+    };
+    for (size_t i = 0; i < sizeof cases / sizeof *cases; i++) {
+        struct roofs s = roofs_of(cases[i].rule, cases[i].length);
+        char name[64];
+        snprintf(name, sizeof name, "%" PRIu64 " ft of sheet flow by rule %" PRIu64, cases[i].length, cases[i].rule);
+        figure(name, study_roofs(&s), cases[i].refusal);
+        figure("its place", s.answer[BT_PLACE], cases[i].place);
+    }
+}
+
+/* No rule and one more fault: 20 stands after 2 and before 3. */
+static void order_of_rules(void)
+{
+    struct roofs rows = roofs_of(0, 301), step = rows, rain = rows, rise = rows, last = rows, none = rows, sheet = rows;
+    rows.rows = 2;
+    step.step = 61;
+    rain.rain = 30001;
+    rise.rain = 4001;
+    last.first = BT_LAST_ROW_NUMBER;
+    none.subareas = 0;
+    figure("no rule, and 1", study_roofs(&rows), 1);
+    figure("no rule, and 2", study_roofs(&step), 2);
+    figure("no rule, and 3", study_roofs(&rain), 20);
+    figure("no rule, and 19", study_roofs(&rise), 20);
+    figure("no rule, and 4", study_roofs(&last), 20);
+    figure("no rule, and 5", study_roofs(&none), 20);
+    figure("no rule, and 7", study_roofs(&sheet), 20);
+    figure("no rule, and 15", edit_roofs(&sheet, 3, 0), 20);
+    rain.rule = rise.rule = last.rule = none.rule = BT_RULE_WINTR55;
+    figure("3 of it", study_roofs(&rain), 3);
+    figure("19 of it", study_roofs(&rise), 19);
+    figure("4 of it", study_roofs(&last), 4);
+    figure("5 of it", study_roofs(&none), 5);
+}
+
+/* Rows that rule 1 left, of a list with a sheet in its second place; the edit is lent a rule of its own. */
+static void edits_by_rules(void)
+{
+    static const struct {
+        u64 standing, place, fresh, rule, refusal, at;
+    } cases[] = {
+        { 100, 1, 100, 1, 0, 0 },  { 100, 1, 100, 2, 0, 0 }, { 100, 1, 101, 1, 0, 0 }, { 100, 1, 101, 2, 7, 1 },
+        { 100, 2, 300, 1, 0, 0 },  { 100, 2, 300, 2, 7, 2 }, { 100, 1, 301, 1, 7, 1 }, { 300, 1, 0, 1, 0, 0 },
+        { 300, 1, 0, 2, 7, 2 },    { 300, 2, 100, 1, 0, 0 }, { 300, 2, 100, 2, 7, 2 }, { 101, 1, 301, 2, 7, 2 },
+        { 100, 1, 100, 0, 20, 0 }, { 0, 1, 0, 3, 20, 0 },
+    };
+    for (size_t i = 0; i < sizeof cases / sizeof *cases; i++) {
+        struct roofs s = roofs_of(BT_RULE_TR55, cases[i].standing);
+        study_roofs(&s);
+        s.rule = cases[i].rule;
+        figure("an edit by a rule", edit_roofs(&s, cases[i].place, cases[i].fresh), cases[i].refusal);
+        figure("its place", s.answer[BT_PLACE], cases[i].at);
+    }
+}
+
+/* No time goes by the rule. */
+static void rows_by_rules(void)
+{
+    struct roofs one = roofs_of(BT_RULE_TR55, 100), two = roofs_of(BT_RULE_WINTR55, 100);
+    figure("a study by rule 1", study_roofs(&one), 0);
+    figure("the same by rule 2", study_roofs(&two), 0);
+    two.rule = one.rule;
+    figure("its rows and figures are the same", (u64)memcmp(&one, &two, sizeof one), 0);
+    figure("an edit by rule 1", edit_roofs(&one, 1, 99), 0);
+    two.rule = BT_RULE_WINTR55;
+    figure("the same by rule 2", edit_roofs(&two, 1, 99), 0);
+    two.rule = one.rule;
+    figure("its rows and figures are the same", (u64)memcmp(&one, &two, sizeof one), 0);
+    figure("and there is water in them", one.answer[BT_INFLOW] > 0, 1);
+}
+
 /* ---- Edits of one or two rows in a pond of the greatest size: docs/DECISIONS.md, readings of open places */
 
 struct small_edit {
@@ -270,8 +400,8 @@ static u64 edit_small(struct small_edit *e)
     static const u64 rain[] = { 0, 700 }, pond[] = { 0, 0, 0, 1000000, 1000000000000, 10000000 };
     const u64 old[BT_WIDTH] = { 1, e->old_cover, 1, 1, [BT_SEGMENT_COUNT] = 1, 3, 360, 100 };
     const u64 fresh[BT_WIDTH] = { 1, e->new_cover, 1, 1, [BT_SEGMENT_COUNT] = 1, 3, 360, 100, e->new_spare };
-    return reference_edit(60, 1, rain, 2, old, BT_WIDTH, pond, 6, e->inflow, e->rows, e->outflow, e->rows, e->storage,
-                          e->rows, 1, fresh, e->answer, e->changes);
+    return reference_edit(60, 1, BT_RULE_TR55, rain, 2, old, BT_WIDTH, pond, 6, e->inflow, e->rows, e->outflow, e->rows,
+                          e->storage, e->rows, 1, fresh, e->answer, e->changes);
 }
 
 /* None changed: the figures of the rows as found, though no study left them. */
@@ -359,6 +489,10 @@ int figures_wrong(void)
     row_from_before();
     limits();
     rises();
+    sheet_limits();
+    order_of_rules();
+    edits_by_rules();
+    rows_by_rules();
     nothing_changed();
     spare_changed();
     found_rows();

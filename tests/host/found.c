@@ -18,9 +18,9 @@ u64 pond_top(const struct site *s)
 u64 study_rows(const struct site *s, struct columns *rows)
 {
     u64 answer[BT_ANSWER_LENGTH];
-    return reference_study(s->step, s->first, s->rain.at, s->rain.len, s->subareas.at, s->subareas.len, s->pond.at,
-                           s->pond.len, rows->inflow, s->inflow, rows->outflow, s->outflow, rows->storage, s->storage,
-                           answer);
+    return reference_study(s->step, s->first, s->rule, s->rain.at, s->rain.len, s->subareas.at, s->subareas.len,
+                           s->pond.at, s->pond.len, rows->inflow, s->inflow, rows->outflow, s->outflow, rows->storage,
+                           s->storage, answer);
 }
 
 u64 up_to(struct prng *r, u64 most)

@@ -216,13 +216,13 @@ static void two_faults(struct mark *m, struct prng *r)
 /* Faults that a study has and no mark looks for. */
 static void faults_of_studies(struct mark *m, struct prng *r)
 {
-    static const int numbers[] = { 3, 19, 5, 6, 7, 8, 9 };
+    static const int numbers[] = { 20, 3, 19, 5, 6, 7, 8, 9 };
     for (size_t i = 0; i < COUNT(numbers); i++)
         for (int where = 0; where < 3; where++) {
             start_mark(m, r);
             m->row = place(where, 12) + 1;
             fault_of(&m->site, numbers[i], where);
-            take_mark("a fault of rain or subareas", m);
+            take_mark("a fault of the rule, the rain or the subareas", m);
         }
 }
 

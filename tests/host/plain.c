@@ -16,9 +16,10 @@ static const u64 MOST_AREA = 200000, MOST_INFLOW = 217800000000;
 
 /* What a call is lent. */
 struct job {
-    u64 step, first;
+    u64 step, first, rule;
     const u64 *rain, *subareas, *pond;
     size_t rain_len, subareas_len, pond_len, rows;
+    u64 sheet;                         /* how far sheet flow may run, once the rule is known */
     size_t count;                      /* subareas, once their number is known */
     u64 area, times[BT_MOST_SUBAREAS]; /* all of it, and Tc of each, once they are within limits */
 };
@@ -61,7 +62,8 @@ static bool within(u64 number, u64 most)
     return number - 1 < most;
 }
 
-static bool segment_good(const u64 *s, bool first)
+/* 'sheet': how far sheet flow may run. */
+static bool segment_good(const u64 *s, bool first, u64 sheet)
 {
     switch (s[BT_KIND_AT]) {
     case BT_SEGMENT_UNPAVED:
@@ -70,7 +72,7 @@ static bool segment_good(const u64 *s, bool first)
     case BT_SEGMENT_GIVEN:
         return within(s[BT_LENGTH_AT], 4000) && within(s[BT_GIVEN_VELOCITY_AT], 10000);
     case BT_SEGMENT_SHEET:
-        return first && within(s[BT_LENGTH_AT], 300) && within(s[BT_SHEET_N_AT], 999) &&
+        return first && within(s[BT_LENGTH_AT], sheet) && within(s[BT_SHEET_N_AT], 999) &&
                within(s[BT_SHEET_RAIN_AT], 30000) && within(s[BT_SHEET_SLOPE_AT], 10000);
     case BT_SEGMENT_CHANNEL:
         return within(s[BT_LENGTH_AT], 4000) && within(s[BT_CHANNEL_N_AT], 999) &&
@@ -80,13 +82,13 @@ static bool segment_good(const u64 *s, bool first)
     }
 }
 
-static bool segments_good(const u64 *record)
+static bool segments_good(const u64 *record, u64 sheet)
 {
     u64 count = record[BT_SEGMENT_COUNT];
     if (count < 1 || count > BT_MOST_SEGMENTS)
         return false;
     for (u64 i = 0; i < count; i++)
-        if (!segment_good(record + BT_SEGMENTS + BT_SEGMENT_WIDTH * i, i == 0))
+        if (!segment_good(record + BT_SEGMENTS + BT_SEGMENT_WIDTH * i, i == 0, sheet))
             return false;
     return true;
 }
@@ -264,7 +266,7 @@ static u64 peak_of(u64 step, u64 time)
     return 3 * time / 5 + step / 2;
 }
 
-/* ---- Checks 1 to 13, and 19 after 3 */
+/* ---- Checks 1 to 13, with 20 after 2 and 19 after 3 */
 
 static struct refusal check_lengths(u64 inflow_len, u64 outflow_len, u64 storage_len)
 {
@@ -275,6 +277,15 @@ static struct refusal check_lengths(u64 inflow_len, u64 outflow_len, u64 storage
 static struct refusal check_step(const struct job *j)
 {
     return j->step % 2 == 0 && 60 <= j->step && j->step <= 3600 ? PASSED : refused(2, 0);
+}
+
+static struct refusal check_rule(struct job *j)
+{
+    switch (j->rule) {
+    case BT_RULE_TR55: j->sheet = 300; return PASSED;
+    case BT_RULE_WINTR55: j->sheet = 100; return PASSED;
+    default: return refused(20, 0);
+    }
 }
 
 static struct refusal check_rain(const struct job *j)
@@ -328,7 +339,7 @@ static struct refusal check_list(struct job *j)
         if (!patches_good(j->subareas + BT_WIDTH * i))
             return refused(6, i + 1);
     for (size_t i = 0; i < j->count; i++)
-        if (!segments_good(j->subareas + BT_WIDTH * i))
+        if (!segments_good(j->subareas + BT_WIDTH * i, j->sheet))
             return refused(7, i + 1);
     for (size_t i = 0; i < j->count; i++) {
         j->area += area_of(j->subareas + BT_WIDTH * i);
@@ -360,12 +371,14 @@ static struct refusal check_pond(const struct job *j)
     return PASSED;
 }
 
-/* 1 to 5, and 19 after 3. */
+/* 1 to 5, with 20 after 2 and 19 after 3. */
 static struct refusal check_setup(struct job *j, u64 inflow_len, u64 outflow_len, u64 storage_len)
 {
     struct refusal r = check_lengths(inflow_len, outflow_len, storage_len);
     if (r.number == 0)
         r = check_step(j);
+    if (r.number == 0)
+        r = check_rule(j);
     if (r.number == 0)
         r = check_rain(j);
     if (r.number == 0)
@@ -558,12 +571,12 @@ static u64 refuse(struct refusal r, u64 *answer, size_t len)
     return r.number;
 }
 
-uint64_t plain_study(uint64_t step, uint64_t first, const uint64_t *rain, size_t rain_len, const uint64_t *subareas,
-                     size_t subareas_len, const uint64_t *pond, size_t pond_len, uint64_t *inflow, size_t inflow_len,
-                     uint64_t *outflow, size_t outflow_len, uint64_t *storage, size_t storage_len,
-                     uint64_t answer[BT_ANSWER_LENGTH])
+uint64_t plain_study(uint64_t step, uint64_t first, uint64_t rule, const uint64_t *rain, size_t rain_len,
+                     const uint64_t *subareas, size_t subareas_len, const uint64_t *pond, size_t pond_len,
+                     uint64_t *inflow, size_t inflow_len, uint64_t *outflow, size_t outflow_len, uint64_t *storage,
+                     size_t storage_len, uint64_t answer[BT_ANSWER_LENGTH])
 {
-    struct job j = { step, first, rain, subareas, pond, rain_len, subareas_len, pond_len, .rows = inflow_len };
+    struct job j = { step, first, rule, rain, subareas, pond, rain_len, subareas_len, pond_len, .rows = inflow_len };
     struct pond p;
     struct rows rows;
     struct refusal r = check_setup(&j, inflow_len, outflow_len, storage_len);
@@ -607,7 +620,7 @@ static struct refusal check_altered(const struct job *j, struct change *c)
 {
     if (!patches_good(c->fresh))
         return refused(6, c->place);
-    if (!segments_good(c->fresh))
+    if (!segments_good(c->fresh, j->sheet))
         return refused(7, c->place);
     if (j->area - area_of(old_record(j, c)) + area_of(c->fresh) > MOST_AREA)
         return refused(8, 0);
@@ -616,7 +629,7 @@ static struct refusal check_altered(const struct job *j, struct change *c)
     return r.number == 0 ? PASSED : refused(r.number, c->place);
 }
 
-/* 1 to 5 with 19 after 3, 15, 6 to 11 twice, 12, 13. */
+/* 1 to 5 with 20 after 2 and 19 after 3, 15, 6 to 11 twice, 12, 13. */
 static struct refusal check_edit(struct job *j, u64 inflow_len, u64 outflow_len, u64 storage_len, struct change *c)
 {
     struct refusal r = check_setup(j, inflow_len, outflow_len, storage_len);
@@ -671,13 +684,13 @@ static struct refusal work_edit(const struct job *j, const struct pond *p, const
     return route(p, before, *from, j->rows, rows);
 }
 
-uint64_t plain_edit(uint64_t step, uint64_t first, const uint64_t *rain, size_t rain_len, const uint64_t *subareas,
-                    size_t subareas_len, const uint64_t *pond, size_t pond_len, uint64_t *inflow, size_t inflow_len,
-                    uint64_t *outflow, size_t outflow_len, uint64_t *storage, size_t storage_len, uint64_t place,
-                    const uint64_t fresh[BT_WIDTH], uint64_t answer[BT_EDIT_ANSWER_LENGTH],
-                    int64_t changes[BT_CHANGES_LENGTH])
+uint64_t plain_edit(uint64_t step, uint64_t first, uint64_t rule, const uint64_t *rain, size_t rain_len,
+                    const uint64_t *subareas, size_t subareas_len, const uint64_t *pond, size_t pond_len,
+                    uint64_t *inflow, size_t inflow_len, uint64_t *outflow, size_t outflow_len, uint64_t *storage,
+                    size_t storage_len, uint64_t place, const uint64_t fresh[BT_WIDTH],
+                    uint64_t answer[BT_EDIT_ANSWER_LENGTH], int64_t changes[BT_CHANGES_LENGTH])
 {
-    struct job j = { step, first, rain, subareas, pond, rain_len, subareas_len, pond_len, .rows = inflow_len };
+    struct job j = { step, first, rule, rain, subareas, pond, rain_len, subareas_len, pond_len, .rows = inflow_len };
     struct pond p;
     struct change change = { place, fresh, 0 };
     struct rows rows;

@@ -336,6 +336,12 @@ struct refusal check_step(const struct lent *s)
     return refuse(s->step % 2 != 0 || !within(s->step, 60, 3600), 2, 0);
 }
 
+/* 1: sheet flow to 300 ft. 2: to 100 ft. There is no other. */
+static struct refusal check_rule(const struct lent *s)
+{
+    return refuse(s->rule != 1 && s->rule != 2, 20, 0);
+}
+
 static struct refusal check_rain(const struct lent *s)
 {
     if (!within(s->rain_len, 2, s->inflow_len + 1) || s->rain[0] != 0)
@@ -387,18 +393,25 @@ static bool bad_patches(const struct lent *s, const u64 *record)
     return false;
 }
 
-/* The most that each number after the kind may be; the least is 1. Those past a kind's own are spare. */
+/* The most that each number after the kind may be, but for a sheet's length by rule 2; the least is 1. Those past a
+   kind's own are spare. */
 static const u64 MOST_OF_SEGMENT[][SEGMENT_WIDTH - 1] = {
     [UNPAVED] = { 4000, 10000 },             /* length, slope */
     [PAVED] = { 4000, 10000 },               /* length, slope */
     [GIVEN] = { 4000, 10000 },               /* length, velocity */
-    [SHEET] = { 300, 999, 30000, 10000 },    /* length, n, 2-year rain, slope */
+    [SHEET] = { 300, 999, 30000, 10000 },    /* length by rule 1, n, 2-year rain, slope */
     [CHANNEL] = { 4000, 999, 10000, 10000 }, /* length, n, hydraulic radius, slope */
 };
 
-static bool bad_segment(const u64 *own, bool first)
+/* A sheet segment that does not stand first, or is longer than 100 ft where the study names rule 2. */
+static bool bad_sheet(u64 rule, const u64 *own, bool first)
 {
-    if (!within(own[0], UNPAVED, CHANNEL) || (own[0] == SHEET && !first))
+    return !first || (rule == 2 && own[1] > 100);
+}
+
+static bool bad_segment(u64 rule, const u64 *own, bool first)
+{
+    if (!within(own[0], UNPAVED, CHANNEL) || (own[0] == SHEET && bad_sheet(rule, own, first)))
         return true;
     const u64 *most = MOST_OF_SEGMENT[own[0]];
     for (int i = 0; i < SEGMENT_WIDTH - 1 && most[i] != 0; i++)
@@ -409,11 +422,10 @@ static bool bad_segment(const u64 *own, bool first)
 
 static bool bad_segments(const struct lent *s, const u64 *record)
 {
-    (void)s;
     if (!within(segment_count(record), 1, MOST_SEGMENTS))
         return true;
     for (u64 i = 0; i < segment_count(record); i++)
-        if (bad_segment(segment(record, i), i == 0))
+        if (bad_segment(s->rule, segment(record, i), i == 0))
             return true;
     return false;
 }
@@ -510,9 +522,9 @@ struct refusal first_of(check *const *checks, size_t count, const struct lent *s
 
 struct refusal run_checks(const struct lent *s)
 {
-    static check *const checks[] = { check_rows,  check_step,        check_rain,
+    static check *const checks[] = { check_rows,  check_step,        check_rule, check_rain,
                                      check_rises, check_last_number, check_count };
-    return first_of(checks, 6, s);
+    return first_of(checks, 7, s);
 }
 
 struct refusal list_checks(const struct lent *s)
@@ -580,13 +592,13 @@ void write_rows(const struct rows *rows, u64 m, u64 *inflow, u64 *outflow, u64 *
     }
 }
 
-u64 reference_study(u64 step, u64 first, const u64 *rain, size_t rain_len, const u64 *subareas, size_t subareas_len,
-                    const u64 *pond, size_t pond_len, u64 *inflow, size_t inflow_len, u64 *outflow, size_t outflow_len,
-                    u64 *storage, size_t storage_len, u64 *answer)
+u64 reference_study(u64 step, u64 first, u64 rule, const u64 *rain, size_t rain_len, const u64 *subareas,
+                    size_t subareas_len, const u64 *pond, size_t pond_len, u64 *inflow, size_t inflow_len, u64 *outflow,
+                    size_t outflow_len, u64 *storage, size_t storage_len, u64 *answer)
 {
     static struct rows rows;
     static check *const checks[] = { run_checks, list_checks, pond_checks };
-    struct lent s = { step,         first,    rain,       subareas,    pond,       rain_len,
+    struct lent s = { step,         first,    rule,       rain,        subareas,   pond, rain_len,
                       subareas_len, pond_len, inflow_len, outflow_len, storage_len };
     memset(answer, 0, 12 * sizeof *answer);
     struct refusal r = first_of(checks, 3, &s);

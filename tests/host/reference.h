@@ -34,14 +34,15 @@ u64 reference_volume(u64 area, u64 depth);                  /* thousandths of a 
 int reference_step(const u64 *pond, size_t rows, u64 half, u64 inflow, struct state *state);
 
 /* A whole study, with the parameters and the answer of bt_study. */
-u64 reference_study(u64 step, u64 first, const u64 *rain, size_t rain_len, const u64 *subareas, size_t subareas_len,
-                    const u64 *pond, size_t pond_len, u64 *inflow, size_t inflow_len, u64 *outflow, size_t outflow_len,
-                    u64 *storage, size_t storage_len, u64 *answer);
+u64 reference_study(u64 step, u64 first, u64 rule, const u64 *rain, size_t rain_len, const u64 *subareas,
+                    size_t subareas_len, const u64 *pond, size_t pond_len, u64 *inflow, size_t inflow_len, u64 *outflow,
+                    size_t outflow_len, u64 *storage, size_t storage_len, u64 *answer);
 
 /* A whole edit, with the parameters and the answers of bt_edit. */
-u64 reference_edit(u64 step, u64 first, const u64 *rain, size_t rain_len, const u64 *subareas, size_t subareas_len,
-                   const u64 *pond, size_t pond_len, u64 *inflow, size_t inflow_len, u64 *outflow, size_t outflow_len,
-                   u64 *storage, size_t storage_len, u64 place, const u64 *fresh, u64 *answer, int64_t *changes);
+u64 reference_edit(u64 step, u64 first, u64 rule, const u64 *rain, size_t rain_len, const u64 *subareas,
+                   size_t subareas_len, const u64 *pond, size_t pond_len, u64 *inflow, size_t inflow_len, u64 *outflow,
+                   size_t outflow_len, u64 *storage, size_t storage_len, u64 place, const u64 *fresh, u64 *answer,
+                   int64_t *changes);
 
 /* A whole mark, with the parameters and the answer of bt_mark, but for inflow, of which nothing but the length is read.
    Its values are the whole numbers that the doubles are to be. */
@@ -51,7 +52,7 @@ u64 reference_mark(u64 step, u64 first, const u64 *pond, size_t pond_len, size_t
 /* A record's part of each of m rows' inflow volume. It and the rain are within document 01's limits. */
 void reference_parts(u64 step, const u64 *rain, size_t rain_len, const u64 *record, u64 *parts, size_t m);
 
-/* The first of 6 to 11, if any, that refuses a list of 1 to 16 records. */
-struct refusal reference_list_refusal(u64 step, const u64 *subareas, size_t subareas_len);
+/* The first of 6 to 11, if any, that refuses a list of 1 to 16 records. The step and the sheet rule pass 2 and 20. */
+struct refusal reference_list_refusal(u64 step, u64 rule, const u64 *subareas, size_t subareas_len);
 
 #endif

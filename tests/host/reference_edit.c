@@ -53,7 +53,7 @@ struct refusal check_standing(const struct lent *s, const u64 *outflow, const u6
     return PASSED;
 }
 
-/* 1 to 5 with 19 after 3, 15, 6 to 11 on the list as it stands, 6 to 11 on the altered list, 12, 13. */
+/* 1 to 5 with 20 after 2 and 19 after 3, 15, 6 to 11 on the list as it stands, 6 to 11 on the altered list, 12, 13. */
 static struct refusal check_lists(const struct lent *s, u64 place, const u64 *fresh, u64 *list)
 {
     struct refusal r = run_checks(s);
@@ -129,12 +129,13 @@ static void answer_done(const struct lent *s, const struct work *w, u64 *answer,
     changes[1] = (int64_t)((wide)answer[3] - old[3]);
 }
 
-u64 reference_edit(u64 step, u64 first, const u64 *rain, size_t rain_len, const u64 *subareas, size_t subareas_len,
-                   const u64 *pond, size_t pond_len, u64 *inflow, size_t inflow_len, u64 *outflow, size_t outflow_len,
-                   u64 *storage, size_t storage_len, u64 place, const u64 *fresh, u64 *answer, int64_t *changes)
+u64 reference_edit(u64 step, u64 first, u64 rule, const u64 *rain, size_t rain_len, const u64 *subareas,
+                   size_t subareas_len, const u64 *pond, size_t pond_len, u64 *inflow, size_t inflow_len, u64 *outflow,
+                   size_t outflow_len, u64 *storage, size_t storage_len, u64 place, const u64 *fresh, u64 *answer,
+                   int64_t *changes)
 {
     static struct work w;
-    struct lent s = { step,         first,    rain,       subareas,    pond,       rain_len,
+    struct lent s = { step,         first,    rule,       rain,        subareas,   pond, rain_len,
                       subareas_len, pond_len, inflow_len, outflow_len, storage_len };
     struct lists rows = { inflow, outflow, storage };
     memset(answer, 0, 13 * sizeof *answer);
@@ -158,8 +159,8 @@ void reference_parts(u64 step, const u64 *rain, size_t rain_len, const u64 *reco
     add_record(&s, record, parts);
 }
 
-struct refusal reference_list_refusal(u64 step, const u64 *subareas, size_t subareas_len)
+struct refusal reference_list_refusal(u64 step, u64 rule, const u64 *subareas, size_t subareas_len)
 {
-    struct lent s = { .step = step, .subareas = subareas, .subareas_len = subareas_len };
+    struct lent s = { .step = step, .rule = rule, .subareas = subareas, .subareas_len = subareas_len };
     return list_checks(&s);
 }

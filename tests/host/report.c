@@ -20,6 +20,7 @@ static void print_setup(const struct site *s)
 static void print_site(const struct site *s)
 {
     print_setup(s);
+    printf("  sheet rule %" PRIu64 "\n", s->rule);
     print_list("rain", s->rain.at, s->rain.len, 20);
     print_list("subareas", s->subareas.at, s->subareas.len, BT_WIDTH);
     print_list("pond", s->pond.at, s->pond.len, BT_POND_WIDTH);

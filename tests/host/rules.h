@@ -24,7 +24,7 @@ enum {
 
 /* Everything that is lent to a study and only read, with the lengths of the row lists. */
 struct lent {
-    u64 step, first;
+    u64 step, first, rule;
     const u64 *rain, *subareas, *pond;
     size_t rain_len, subareas_len, pond_len, inflow_len, outflow_len, storage_len;
 };
@@ -46,7 +46,7 @@ struct refusal refuse(bool when, u64 number, u64 place);
 struct refusal first_of(check *const *checks, size_t count, const struct lent *s);
 
 check check_rows, check_step, check_last_number; /* 1, 2, 4 */
-check run_checks;                                /* 1 to 5, and 19 after 3 */
+check run_checks;                                /* 1 to 5, with 20 after 2 and 19 after 3 */
 check list_checks;                               /* 6 to 11 */
 check pond_checks;                               /* 12, 13 */
 

@@ -179,25 +179,42 @@ static ranges PLAIN = {
     [BT_SEGMENT_CHANNEL] = { [BT_LENGTH_AT] = { 600, 1000 }, { 45, 60 }, { 50, 120 }, { 150, 250 } },
 };
 
-struct range segment_range(u64 kind, size_t i)
+/* As the table has it, which goes by rule 1: by rule 2 sheet flow ends sooner. */
+static struct range range_in(ranges in, u64 rule, u64 kind, size_t i)
+{
+    struct range own = in[kind][i];
+    if (rule == BT_RULE_WINTR55 && kind == BT_SEGMENT_SHEET && i == BT_LENGTH_AT)
+        own.most = 100;
+    return own;
+}
+
+struct range segment_range(u64 rule, u64 kind, size_t i)
 {
     static const struct range kinds = { BT_SEGMENT_UNPAVED, BT_SEGMENT_CHANNEL }, any_at_all = { 0, UINT64_MAX };
     if (i == BT_KIND_AT)
         return kinds;
-    return ALLOWED[kind][i].most == 0 ? any_at_all : ALLOWED[kind][i];
+    return ALLOWED[kind][i].most == 0 ? any_at_all : range_in(ALLOWED, rule, kind, i);
 }
 
 /* What stands in its spare numbers is left there. */
-static void segment_within(ranges in, u64 *at, u64 kind, struct prng *r)
+static void segment_within(ranges in, u64 rule, u64 *at, u64 kind, struct prng *r)
 {
     at[BT_KIND_AT] = kind;
-    for (size_t i = BT_LENGTH_AT; i < BT_SEGMENT_WIDTH && in[kind][i].most != 0; i++)
-        at[i] = between(r, in[kind][i].least, in[kind][i].most);
+    for (size_t i = BT_LENGTH_AT; i < BT_SEGMENT_WIDTH && in[kind][i].most != 0; i++) {
+        struct range own = range_in(in, rule, kind, i);
+        at[i] = between(r, own.least, own.most);
+    }
 }
 
-void random_segment(u64 *at, u64 kind, struct prng *r)
+void random_segment(u64 rule, u64 *at, u64 kind, struct prng *r)
 {
-    segment_within(chance(r, 80) ? USUAL : ALLOWED, at, kind, r);
+    segment_within(chance(r, 80) ? USUAL : ALLOWED, rule, at, kind, r);
+}
+
+void set_sheet(u64 *record, u64 length)
+{
+    set_segment(segment_at(record, 0), GOOD_SEGMENT[BT_SEGMENT_SHEET]);
+    segment_at(record, 0)[BT_LENGTH_AT] = length;
 }
 
 /* ---- Subareas */
@@ -227,12 +244,12 @@ static u64 random_kind(struct prng *r, bool first)
 }
 
 /* Segments whose times together lie between the two bounds, or near them. */
-static void random_path(u64 *record, struct prng *r, u64 least, u64 most)
+static void random_path(u64 rule, u64 *record, struct prng *r, u64 least, u64 most)
 {
     u64 total = 0, count = 0, tries = between(r, 1, 5);
     while (tries-- > 0) {
         u64 *at = segment_at(record, count);
-        random_segment(at, random_kind(r, count == 0), r);
+        random_segment(rule, at, random_kind(r, count == 0), r);
         u64 time = reference_segment(at);
         if (total + time > most)
             continue;
@@ -250,10 +267,10 @@ static void random_path(u64 *record, struct prng *r, u64 least, u64 most)
 }
 
 /* So many seconds, the first of them by a segment of any kind where its time leaves room. */
-static void random_path_of(u64 *record, struct prng *r, u64 seconds)
+static void random_path_of(u64 rule, u64 *record, struct prng *r, u64 seconds)
 {
     u64 *first = segment_at(record, 0);
-    random_segment(first, random_kind(r, true), r);
+    random_segment(rule, first, random_kind(r, true), r);
     u64 time = reference_segment(first);
     record[BT_SEGMENT_COUNT] = time <= seconds;
     add_time(record, time <= seconds ? seconds - time : seconds);
@@ -273,7 +290,7 @@ static u64 most_concentration(u64 step)
 
 void fitting_path(const struct site *s, u64 *record, struct prng *r)
 {
-    random_path(record, r, least_concentration(s->step), most_concentration(s->step));
+    random_path(s->rule, record, r, least_concentration(s->step), most_concentration(s->step));
 }
 
 void fitting_record(const struct site *s, u64 *record, struct prng *r, u64 most)
@@ -373,10 +390,16 @@ static void random_pond(struct site *s, struct prng *r, size_t rows, u64 water)
 
 /* ---- Whole sites */
 
+static u64 random_rule(struct prng *r)
+{
+    return chance(r, 50) ? BT_RULE_TR55 : BT_RULE_WINTR55;
+}
+
 void plain_site(struct site *s, struct prng *r, size_t count, size_t rows)
 {
     s->step = chance(r, 50) ? 120 : 300;
     s->first = between(r, 1, 1000);
+    s->rule = random_rule(r);
     set_rows(s, 12);
     s->rain.len = 9;
     for (size_t t = 1; t <= 8; t++)
@@ -385,7 +408,7 @@ void plain_site(struct site *s, struct prng *r, size_t count, size_t rows)
     for (size_t i = 0; i < count; i++) {
         random_patches(record_at(s, i), r, BT_MOST_PATCHES, 100000 / count);
         for (size_t j = 0; j < BT_MOST_SEGMENTS; j++)
-            segment_within(PLAIN, segment_at(record_at(s, i), j), random_kind(r, j == 0), r);
+            segment_within(PLAIN, s->rule, segment_at(record_at(s, i), j), random_kind(r, j == 0), r);
         record_at(s, i)[BT_SEGMENT_COUNT] = BT_MOST_SEGMENTS;
     }
     set_pond(s, rows, all_water(s) * 2, 1800, 100);
@@ -407,6 +430,7 @@ void likely_site(struct site *s, struct prng *r)
     size_t n = chance(r, 90) ? between(r, 1, 40) : between(r, 1, 200);
     s->step = likely_step(r);
     s->first = chance(r, 90) ? below(r, 1000) : BT_LAST_ROW_NUMBER - 1000 + below(r, 1000);
+    s->rule = random_rule(r);
     set_rows(s, n + (chance(r, 80) ? below(r, 60) : 0));
     random_rain(s, r, n, chance(r, 90) ? between(r, 100, 9000) : between(r, 0, 30000));
     random_subareas(s, r, likely_count(r), chance(r, 70) ? between(r, 2000, 30000) : 200000);
@@ -417,11 +441,12 @@ void large_site(struct site *s, struct prng *r)
 {
     s->step = 60;
     s->first = below(r, 1000000);
+    s->rule = random_rule(r);
     set_rows(s, BT_MOST_ROWS);
     random_rain(s, r, chance(r, 50) ? BT_MOST_ROWS : between(r, 200, BT_MOST_ROWS), between(r, 2000, 30000));
     random_subareas(s, r, BT_MOST_SUBAREAS, 200000);
     for (size_t i = 0; i < BT_MOST_SUBAREAS; i++)
-        random_path_of(record_at(s, i), r, between(r, 10190, 10191)); /* Tp 6,144 */
+        random_path_of(s->rule, record_at(s, i), r, between(r, 10190, 10191)); /* Tp 6,144 */
     random_pond(s, r, BT_MOST_POND_ROWS, all_water(s) * between(r, 20, 130) / 100);
 }
 
@@ -430,8 +455,9 @@ void large_site(struct site *s, struct prng *r)
 u64 nasty(struct prng *r, u64 was)
 {
     static const u64 edges[] = {
-        0, 1, 2, 3, 4, 6, 7, 8, 9, 16, 22, 60, 300, 360, 512, 999, 2000, 3600, 4000, 10000, 30000, 36000, 200000,
-        1000000, 10000000, 4294967296, 217800000000, 1000000000000, 9007199254740991, 9223372036854775807, UINT64_MAX,
+        0, 1, 2, 3, 4, 6, 7, 8, 9, 16, 22, 60, 100, 300, 360, 512, 999, 2000, 3600, 4000, 10000, 30000, 36000,
+        200000, 1000000, 10000000, 4294967296, 217800000000, 1000000000000, 9007199254740991, 9223372036854775807,
+        UINT64_MAX,
     };
     switch (below(r, 6)) {
     case 0: return was + 1;
@@ -461,10 +487,14 @@ static u64 *some_number(u64 *record, struct prng *r)
     }
 }
 
-void spoil_record(u64 *record, struct prng *r)
+void spoil_record(const struct site *s, u64 *record, struct prng *r)
 {
     if (chance(r, 15)) {
-        random_segment(some_segment(record, r), BT_SEGMENT_SHEET, r); /* a good one, but perhaps not first */
+        random_segment(s->rule, some_segment(record, r), BT_SEGMENT_SHEET, r); /* a good one, but perhaps not first */
+        return;
+    }
+    if (chance(r, 10)) {
+        set_sheet(record, segment_range(s->rule, BT_SEGMENT_SHEET, BT_LENGTH_AT).most + below(r, 3));
         return;
     }
     u64 *at = some_number(record, r);
@@ -474,7 +504,7 @@ void spoil_record(u64 *record, struct prng *r)
 static void spoil_some_record(struct site *s, struct prng *r)
 {
     if (subarea_count(s) != 0)
-        spoil_record(record_at(s, below(r, subarea_count(s))), r);
+        spoil_record(s, record_at(s, below(r, subarea_count(s))), r);
 }
 
 /* Makes a number the same as its like in the row before, or trades the two. */
@@ -550,9 +580,16 @@ static void spoil_fit(struct site *s, struct prng *r)
     }
 }
 
+/* No rule at all; or the other one, and its sheets may be too long. */
+static void spoil_rule(struct site *s, struct prng *r)
+{
+    const u64 wrong[] = { 0, 3, UINT64_MAX, nasty(r, s->rule) };
+    s->rule = chance(r, 40) ? wrong[below(r, 4)] : s->rule == BT_RULE_TR55 ? BT_RULE_WINTR55 : BT_RULE_TR55;
+}
+
 static void spoil(struct site *s, struct prng *r)
 {
-    switch (below(r, 12)) {
+    switch (below(r, 13)) {
     case 0: s->step = nasty(r, s->step); break;
     case 1: s->first = chance(r, 50) ? nasty(r, s->first) : BT_LAST_ROW_NUMBER - s->inflow + below(r, 4); break;
     case 2: spoil_number(&s->rain, r); break;
@@ -563,6 +600,7 @@ static void spoil(struct site *s, struct prng *r)
     case 7:
     case 8: spoil_fit(s, r); break;
     case 9: spoil_rise(s, r); break;
+    case 10: spoil_rule(s, r); break;
     default: spoil_some_record(s, r); break;
     }
 }

@@ -17,7 +17,7 @@ struct list {
 };
 
 struct site {
-    u64 step, first;
+    u64 step, first, rule;
     struct list rain, subareas, pond;
     size_t inflow, outflow, storage; /* lengths of the row lists */
 };
@@ -68,26 +68,28 @@ u64 total_area(const struct site *s);
 void pour(struct site *s, u64 total);
 void set_rise(struct site *s, size_t t, u64 rise);
 
-/* Segments by kind: one that passes, with nothing in its spare numbers; and what number i may be, also a spare one. */
+/* Segments by kind: one that passes by either sheet rule, with nothing in its spare numbers; and what number i may be
+   by a rule, also a spare one. */
 extern const u64 GOOD_SEGMENT[BT_SEGMENT_CHANNEL + 1][BT_SEGMENT_WIDTH];
-struct range segment_range(u64 kind, size_t i);
-void random_segment(u64 *at, u64 kind, struct prng *r); /* within those ranges; what stands in spare numbers stays */
+struct range segment_range(u64 rule, u64 kind, size_t i);
+void random_segment(u64 rule, u64 *at, u64 kind, struct prng *r); /* within those; spare numbers stay as they are */
+void set_sheet(u64 *record, u64 length);             /* its first segment: a good sheet of this length */
 
 /* Parts of a good record: litter past the counts and in spare numbers, patches of an area together at most 'most', a
-   path that 9 to 11 allow with the site's step. */
+   path that 7 allows by the site's rule and 9 to 11 with its step. */
 void litter(u64 *record, struct prng *r);
 void random_patches(u64 *record, struct prng *r, size_t count, u64 most);
 void fitting_path(const struct site *s, u64 *record, struct prng *r);
 void fitting_record(const struct site *s, u64 *record, struct prng *r, u64 most); /* all three */
 
-/* A Tc near one that the site's step, or 36,000, forbids; one number, or a sheet segment's place, spoilt. */
+/* A Tc near one that the site's step, or 36,000, forbids; one number, or a sheet segment's place or length, spoilt. */
 void spoil_time(const struct site *s, u64 *record, struct prng *r);
-void spoil_record(u64 *record, struct prng *r);
+void spoil_record(const struct site *s, u64 *record, struct prng *r);
 
 /* ---- Whole sites */
 
 /* Fixed in all but its numbers: 'count' full records, 'rows' pond rows, 12 rows, 8 rain steps. Accepted with a step of
-   120 or of 300, and the pond holds all the water. */
+   120 or of 300 and by either sheet rule, and the pond holds all the water. */
 void plain_site(struct site *s, struct prng *r, size_t count, size_t rows);
 
 /* As an engineer might hand it in; most are accepted. */

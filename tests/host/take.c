@@ -130,7 +130,7 @@ const struct result *take_edit(const char *kind, const struct edit *e)
     return &due;
 }
 
-const struct result *take_standing(const char *kind, const struct edit *e, const u64 *before)
+const struct result *take_standing_by(const char *kind, const struct edit *e, const u64 *before, u64 rule)
 {
     static struct site altered;
     static struct result anew;
@@ -138,10 +138,16 @@ const struct result *take_standing(const char *kind, const struct edit *e, const
     if (!next_case())
         return &due;
     altered_site(&altered, e);
+    altered.rule = rule;
     study_due(&anew, &altered);
     const char *other = try_edit(e, 0), *fault = standing_fault(&call, e, before, &anew);
     settle_edit(kind, fault ? fault : other, e);
     return &due;
+}
+
+const struct result *take_standing(const char *kind, const struct edit *e, const u64 *before)
+{
+    return take_standing_by(kind, e, before, e->site.rule);
 }
 
 /* ---- Marks */

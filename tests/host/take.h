@@ -26,8 +26,10 @@ const struct result *take_edit(const char *kind, const struct edit *e);
 
 const struct result *take_mark(const char *kind, const struct mark *m);
 
-/* An edit of rows that stand on their list, with the figures they have: it is held to a new study, too. */
+/* An edit of rows that stand on their list, with the figures they have: it is held to a new study, too, by the edit's
+   sheet rule or by the one that is named. */
 const struct result *take_standing(const char *kind, const struct edit *e, const u64 *before);
+const struct result *take_standing_by(const char *kind, const struct edit *e, const u64 *before, u64 rule);
 
 /* A site in every function: a study of it, then an edit, then a mark. */
 enum { SITE_CASES = 3 };

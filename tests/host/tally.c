@@ -3,7 +3,7 @@
 #include <inttypes.h>
 #include <stdio.h>
 
-enum { LAST_REFUSAL = BT_REFUSED_RISE };
+enum { LAST_REFUSAL = BT_REFUSED_RULE };
 
 static struct {
     u64 study[LAST_REFUSAL + 1], edit[LAST_REFUSAL + 1], mark[LAST_REFUSAL + 1]; /* by refusal number, 0 for done */
@@ -14,6 +14,9 @@ static struct {
     u64 records[3];               /* studies of whole records: none, 1 to 16, more */
     u64 early[2];                 /* of more: refused before 5, with 5 */
     u64 segments[BT_SEGMENT_CHANNEL + 1]; /* of done studies, by kind */
+    u64 rule[BT_RULE_WINTR55 + 1];        /* done studies, by sheet rule */
+    u64 edit_rule[BT_RULE_WINTR55 + 1];   /* done edits */
+    u64 too_long[3];              /* 7 by rule 2 alone: of studies, of edits for the list, for the altered list */
     u64 sheet[4];                 /* done edits: no sheet segment, one taken away, one brought, one kept */
     u64 kind[3];                  /* marks that are nothing, an outflow, a peak */
     u64 asked[2];                 /* marks refused with 17 at the row asked, at another */
@@ -35,15 +38,36 @@ static void count_segments(const u64 *record)
         tally.segments[record[BT_SEGMENTS + BT_SEGMENT_WIDTH * i]]++;
 }
 
+static struct refusal list_refusal(const struct site *s, u64 rule)
+{
+    return reference_list_refusal(s->step, rule, s->subareas.at, s->subareas.len);
+}
+
+/* Of a list that is refused with 7: whether rule 1 would let this subarea pass. */
+static bool for_rule(const struct site *s, u64 place)
+{
+    struct refusal other = list_refusal(s, BT_RULE_TR55);
+    return other.number != BT_REFUSED_SEGMENTS || other.place != place;
+}
+
+static void count_done_study(const struct site *s)
+{
+    tally.rule[s->rule]++;
+    for (size_t i = 0; i < subarea_count(s); i++)
+        count_segments(s->subareas.at + BT_WIDTH * i);
+}
+
 void count_study(const struct site *s, const struct result *due)
 {
-    u64 row = due->answer[BT_PLACE];
+    u64 place = due->answer[BT_PLACE];
     count_records(s, due);
     tally.study[due->gave]++;
-    for (size_t i = 0; due->gave == 0 && i < subarea_count(s); i++)
-        count_segments(s->subareas.at + BT_WIDTH * i);
+    if (due->gave == 0)
+        count_done_study(s);
+    if (due->gave == BT_REFUSED_SEGMENTS && for_rule(s, place))
+        tally.too_long[0]++;
     if (due->gave == BT_REFUSED_FULL)
-        tally.full[row == 1 ? 0 : row < s->inflow ? 1 : 2]++;
+        tally.full[place == 1 ? 0 : place < s->inflow ? 1 : 2]++;
 }
 
 /* The first row that the edit changes, were it done: 0 if none. */
@@ -65,11 +89,6 @@ static void count_row(const struct edit *e, const struct result *due)
     tally.row[due->gave][first == 0 ? 2 : due->answer[BT_PLACE] < first ? 0 : 1]++;
 }
 
-static bool list_passes(const struct site *s)
-{
-    return reference_list_refusal(s->step, s->subareas.at, s->subareas.len).number == 0;
-}
-
 static bool has_sheet(const u64 *record)
 {
     return record[BT_SEGMENTS] == BT_SEGMENT_SHEET;
@@ -80,6 +99,19 @@ static void count_done(const struct edit *e, const struct result *due)
     bool was = has_sheet(e->site.subareas.at + BT_WIDTH * (e->place - 1)), is = has_sheet(e->fresh);
     tally.done[due->answer[BT_CHANGED] < 2 ? due->answer[BT_CHANGED] : 2]++;
     tally.sheet[was + 2 * is]++;
+    tally.edit_rule[e->site.rule]++;
+}
+
+/* Refused with one of 6 to 11: for the list as it stands, or for the altered one alone. */
+static void count_list(const struct edit *e, const struct result *due)
+{
+    static struct site other;
+    bool fresh = list_refusal(&e->site, e->site.rule).number == 0;
+    altered_site(&other, e);
+    if (fresh)
+        tally.fresh[due->gave]++;
+    if (due->gave == BT_REFUSED_SEGMENTS && for_rule(fresh ? &other : &e->site, due->answer[BT_PLACE]))
+        tally.too_long[fresh ? 2 : 1]++;
 }
 
 void count_edit(const struct edit *e, const struct result *due)
@@ -88,8 +120,8 @@ void count_edit(const struct edit *e, const struct result *due)
     tally.edit[n]++;
     if (n == 0)
         count_done(e, due);
-    if (BT_REFUSED_PATCHES <= n && n <= BT_REFUSED_SHORT_STEP && list_passes(&e->site))
-        tally.fresh[n]++;
+    if (BT_REFUSED_PATCHES <= n && n <= BT_REFUSED_SHORT_STEP)
+        count_list(e, due);
     if (n == BT_REFUSED_FULL || n == BT_REFUSED_INFLOW || n == BT_REFUSED_STANDING)
         count_row(e, due);
 }
@@ -124,7 +156,7 @@ static void print_end(u64 count, bool possible)
 
 static bool ends_study(int n)
 {
-    return n <= BT_REFUSED_FULL || n == BT_REFUSED_RISE;
+    return n <= BT_REFUSED_FULL || n == BT_REFUSED_RISE || n == BT_REFUSED_RULE;
 }
 
 static bool ends_edit(int n)
@@ -177,6 +209,9 @@ bool print_tally(void)
     print_ends();
     print_counts("14 of studies at the first row, between, the last", tally.full, 3);
     print_counts("segments of done studies, kinds 1 to 5", tally.segments + BT_SEGMENT_UNPAVED, BT_SEGMENT_CHANNEL);
+    print_counts("studies done by sheet rule 1, by 2", tally.rule + BT_RULE_TR55, 2);
+    print_counts("edits done by sheet rule 1, by 2", tally.edit_rule + BT_RULE_TR55, 2);
+    print_counts("7 by sheet rule 2 alone, of studies, of edits for the list, for the altered list", tally.too_long, 3);
     print_counts("studies of no record, of 1 to 16, of more", tally.records, 3);
     print_counts("of more, refused before 5, with 5", tally.early, 2);
     print_edits();

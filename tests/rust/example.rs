@@ -1,4 +1,4 @@
-// Three studies from Rust, one refused: those of tests/host/example, with the same numbers; what is altered there by an
+// Four studies from Rust, two refused: those of tests/host/example, with the same numbers; what is altered there by an
 // edit is here a new study. tests/rust/run compiles this, runs it, and compares what it prints.
 //
 //     rustc --edition 2021 -O -L target/staticlib tests/rust/example.rs -o example
@@ -57,13 +57,13 @@ struct Subarea {
 }
 
 /// The interface that the structs and functions here are declared for.
-const INTERFACE: u64 = 3;
+const INTERFACE: u64 = 4;
 
 #[link(name = "host", kind = "static")]
 extern "C" {
     fn bt_interface() -> u64;
     fn bt_study_records(
-        step: u64, first: u64,
+        step: u64, first: u64, rule: u64,
         rain: *const u64, rain_len: usize,
         list: *const Subarea, list_len: usize,
         pond: *const u64, pond_len: usize,
@@ -74,6 +74,14 @@ extern "C" {
     ) -> u64;
 }
 
+/// Sheet rules: sheet flow to 300 ft, and to 100 ft.
+const TR55: u64 = 1;
+const WINTR55: u64 = 2;
+
+/// The refusal of a segment out of its limits, also of one of sheet flow that is longer than the rule lets it be; its
+/// place is the subarea.
+const REFUSED_SEGMENTS: u64 = 7;
+
 /// The refusal of rain that rises by more than 4,000 from one entry to the next; its place is the later one.
 const REFUSED_RISE: u64 = 19;
 
@@ -82,6 +90,7 @@ const REFUSED_RISE: u64 = 19;
 struct Site<'a> {
     step: u64,
     first: u64,
+    rule: u64,
     rain: &'a [u64],
     list: &'a [Subarea],
     pond: &'a [u64],
@@ -102,7 +111,7 @@ fn study(site: &Site, rows: &mut Rows) -> Result<[u64; 12], (u64, u64)> {
     // overlap is left to who makes a Site.
     let refusal = unsafe {
         bt_study_records(
-            site.step, site.first,
+            site.step, site.first, site.rule,
             site.rain.as_ptr(), site.rain.len(),
             site.list.as_ptr(), site.list.len(),
             site.pond.as_ptr(), site.pond.len(),
@@ -162,11 +171,12 @@ fn main() {
     );
     let built = subarea(
         &[Patch { cover: 12, soil: 3, area: 500 }, Patch { cover: 20, soil: 3, area: 100 }],
-        &[Segment::sheet(100, 150, 3600, 200), Segment::paved(1400, 300), Segment::channel(400, 30, 80, 100)],
+        &[Segment::sheet(150, 150, 3600, 200), Segment::paved(1400, 300), Segment::channel(400, 30, 80, 100)],
     );
     let site = Site {
         step: 300,
         first: 1,
+        rule: TR55,
         rain: &[0, 60, 150, 300, 600, 1400, 2200, 2500, 2700, 2830, 2920, 2970, 3000],
         list: &[lots, woods],
         pond: &[0, 0, 0, 1000, 12000000, 2000, 2000, 30000000, 9000, 4000, 90000000, 20000],
@@ -176,9 +186,15 @@ fn main() {
         ..site
     };
     let altered = Site { list: &[lots, built], ..site };
+    let too_long = Site { rule: WINTR55, ..altered };
     let mut rows = Rows { inflow: vec![0; 24], outflow: vec![0; 24], storage: vec![0; 24] };
     if let Err((REFUSED_RISE, place)) = study(&slipped, &mut rows) {
         println!("the study with a slipped decimal is refused: {REFUSED_RISE} at {place}");
+    }
+    if let Err((REFUSED_SEGMENTS, place)) = study(&too_long, &mut rows) {
+        println!(
+            "the study with sheet flow past 100 ft, by the rule of 100 ft, is refused: {REFUSED_SEGMENTS} at {place}"
+        );
     }
     print_study("the study", study(&site, &mut rows));
     print_study("with the second subarea built over", study(&altered, &mut rows));

@@ -54,6 +54,7 @@ int main(void)
     set_rows(&s, count(BT_MOST_ROWS));
     s.step = next();
     s.first = next();
+    s.rule = next();
     s.rain.len = count(BT_MOST_ROWS + 1);
     numbers(s.rain.at, s.rain.len);
     s.subareas.len = BT_WIDTH * count(BT_MOST_SUBAREAS);

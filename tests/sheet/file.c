@@ -101,6 +101,7 @@ void words_of(const struct site *s, struct file *f)
     count(f, s->inflow, "the number of rows", BT_MOST_ROWS + 1, ", at most 2000");
     number(f, s->step, "the step");
     number(f, s->first, "the first row number");
+    number(f, s->rule, "the sheet rule");
     count(f, s->rain.len, "the number of rain entries", BT_MOST_ROWS + 2, ", at most one more than the rows");
     for (size_t t = 0; t < s->rain.len; t++)
         snprintf(add(f, s->rain.at[t])->name, NAME, "rain entry %zu", t);

@@ -11,7 +11,7 @@
 #include "faults.h"
 #include "paper.h"
 
-enum { PATH = 4096, MOST_WORDS = 8, LAST_REFUSAL = BT_REFUSED_RISE };
+enum { PATH = 4096, MOST_WORDS = 8, LAST_REFUSAL = BT_REFUSED_RULE };
 
 static const char *folder;
 static char *program[MOST_WORDS + 2]; /* its words, room for the file's name, NULL */

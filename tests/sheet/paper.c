@@ -60,11 +60,17 @@ static void clock_time(struct sink *to, int width, u64 seconds)
 
 /* ---- The site */
 
+static const char *const SHEET_RULES[] = {
+    [BT_RULE_TR55] = "sheet flow to 300 ft (TR-55, 1986)",
+    [BT_RULE_WINTR55] = "sheet flow to 100 ft (WinTR-55; NEH 630, chapter 15)",
+};
+
 static void heading(struct sink *to, const struct site *s)
 {
     put(to, "DETENTION POND STUDY\n\nStep          %" PRIu64 " s = ", s->step);
     clock_time(to, 0, s->step);
-    put(to, " (h:mm:ss)\nFirst row     %" PRIu64 "\nRows          %zu\nRain total    ", s->first, s->inflow);
+    put(to, " (h:mm:ss)\nFirst row     %" PRIu64 "\nSheet rule    %s\nRows          %zu\nRain total    ", s->first,
+        SHEET_RULES[s->rule], s->inflow);
     column(to, 0, s->rain.at[s->rain.len - 1], 3);
     put(to, " in\nRain entries  %zu\n", s->rain.len);
 }
@@ -224,7 +230,7 @@ static const char *const RULES[] = {
     " (subarea): it must have 1 to 8 patches, each of cover 1 to 22, soil group 1 to 4 and 0.01 to 2,000 acres",
     " (subarea): it must have 1 to 6 segments, each of kind 1 to 5, length 1 to 4,000 ft, slope, velocity and radius 1 "
     "to 10,000, n 1 to 999 and 2-year rain 1 to 30,000; only the first may be a sheet segment (kind 4), of at most 300 "
-    "ft",
+    "ft by sheet rule 1, 100 ft by 2",
     ": all subareas together must have at most 2,000 acres",
     " (subarea): its time of concentration must be at most 36,000 seconds",
     " (subarea): the step must not be longer than its time to peak",
@@ -234,6 +240,8 @@ static const char *const RULES[] = {
     " (pond row): it must store at least half a step of its discharge",
     " (row): its water must not be more than the last pond row can hold and release",
     [BT_REFUSED_RISE] = " (rain entry): it must be at most 4 inches above the one before",
+    [BT_REFUSED_RULE] = ": the sheet rule must be 1 (300 ft, TR-55 of 1986) or 2 (100 ft, WinTR-55 and NEH 630 chapter "
+                        "15)",
 };
 
 u64 paper(const struct site *s, char *text, size_t room)
@@ -241,7 +249,7 @@ u64 paper(const struct site *s, char *text, size_t room)
     static struct columns c;
     u64 answer[BT_ANSWER_LENGTH];
     struct sink to = { text, room };
-    reference_study(s->step, s->first, s->rain.at, s->rain.len, s->subareas.at, s->subareas.len, s->pond.at,
+    reference_study(s->step, s->first, s->rule, s->rain.at, s->rain.len, s->subareas.at, s->subareas.len, s->pond.at,
                     s->pond.len, c.inflow, s->inflow, c.outflow, s->outflow, c.storage, s->storage, answer);
     u64 number = answer[BT_REFUSAL];
     if (number != 0) {

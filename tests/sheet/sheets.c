@@ -1,8 +1,8 @@
 /*
  * sheets FOLDER SEED CASES: holds the sheet program to the reference of tests/host, file by file: each limit on it and
- * one past it, sheet flow in each place, each refusal, each fault of a file at each of its words, CASES random studies,
- * half of them hostile, and two of the largest. Standard input has the words that run the program, one to a line. Stops
- * at the first difference.
+ * one past it, sheet flow in each place and of each length by each sheet rule, each refusal, each fault of a file at
+ * each of its words, CASES random studies, half of them hostile, and two of the largest. Standard input has the words
+ * that run the program, one to a line. Stops at the first difference.
  */
 #include <stdio.h>
 #include <stdlib.h>
@@ -44,9 +44,9 @@ static void set_path(u64 *record)
     set_segment(segment_at(record, CHANNEL_AT), CHANNEL);
 }
 
-enum field { STEP, FIRST, ENTRY, PATCHES, COVER, SOIL, AREA, SEGMENTS, FIRST_KIND, SHEET_LENGTH, SHEET_N, SHEET_RAIN,
-             SHEET_SLOPE, LENGTH, RATE, KIND, CHANNEL_LENGTH, CHANNEL_N, CHANNEL_RADIUS, CHANNEL_SLOPE, STAGE, STORAGE,
-             DISCHARGE };
+enum field { STEP, FIRST, RULE, ENTRY, PATCHES, COVER, SOIL, AREA, SEGMENTS, FIRST_KIND, SHEET_LENGTH, SHEET_N,
+             SHEET_RAIN, SHEET_SLOPE, LENGTH, RATE, KIND, CHANNEL_LENGTH, CHANNEL_N, CHANNEL_RADIUS, CHANNEL_SLOPE,
+             STAGE, STORAGE, DISCHARGE };
 
 static u64 *field_of(struct site *s, enum field field)
 {
@@ -54,6 +54,7 @@ static u64 *field_of(struct site *s, enum field field)
     switch (field) {
     case STEP: return &s->step;
     case FIRST: return &s->first;
+    case RULE: return &s->rule;
     case ENTRY: return &s->rain.at[s->rain.len - 1];
     case PATCHES: return record + BT_PATCH_COUNT;
     case COVER: return patch_at(record, 2);
@@ -84,6 +85,7 @@ static const struct {
 } LIMITS[] = {
     { STEP, { 58, 60, 3600, 3602 } },           { STEP, { 59, 120, 300, 3601 } },
     { FIRST, { 0, 1, BT_LAST_ROW_NUMBER - 11, BT_LAST_ROW_NUMBER - 10 } },
+    { RULE, { 0, 1, 2, 3 } },
     { ENTRY, { 0, 5000, 30000, 30001 } },       { PATCHES, { 0, 1, 8, 9 } },
     { COVER, { 0, 1, 22, 23 } },                { SOIL, { 0, 1, 4, 5 } },
     { AREA, { 0, 1, 100000, 200001 } },         { SEGMENTS, { 0, 1, 6, 7 } },
@@ -236,6 +238,31 @@ static void sheet_flow(struct site *s, size_t at)
     hold_site("sheet flow", s, &r);
 }
 
+/* Sheet flow on each limit and one past it, by each sheet rule and by numbers that are none. */
+static void sheet_rules(struct site *s)
+{
+    static const u64 rules[] = { 0, BT_RULE_TR55, BT_RULE_WINTR55, 3, (1ull << 32) + 1, UINT64_MAX },
+                     lengths[] = { 100, 101, 300, 301 };
+    for (size_t i = 0; i < COUNT(rules); i++)
+        for (size_t j = 0; j < COUNT(lengths); j++) {
+            struct prng r = fresh_plain(s, 3, 7);
+            s->rule = rules[i];
+            set_path(record_at(s, 1));
+            *field_of(s, SHEET_LENGTH) = lengths[j];
+            hold_site("a sheet rule", s, &r);
+        }
+}
+
+/* A rule is asked also of a study without sheet flow. */
+static void no_sheet(struct site *s, u64 rule)
+{
+    struct prng r = fresh_plain(s, 3, 7);
+    s->rule = rule;
+    for (size_t i = 0; i < 3; i++)
+        set_concentration(record_at(s, i), 6000);
+    hold_site("no sheet flow", s, &r);
+}
+
 static void refusals(struct site *s)
 {
     for (size_t n = 0; n < STUDY_FAULTS; n++)
@@ -326,6 +353,9 @@ int main(int argc, char **argv)
     together(&s);
     for (size_t i = 0; i < BT_MOST_SEGMENTS; i++)
         sheet_flow(&s, i);
+    sheet_rules(&s);
+    for (u64 rule = 0; rule < 4; rule++)
+        no_sheet(&s, rule);
     refusals(&s);
     file_faults(&s);
     for (u64 i = 0; i < 2; i++)

@@ -4,7 +4,7 @@
  *   interface N            what bt_interface gives
  *   record WIDTH           the numbers of a record
  *   case TEXT              what follows, in words
- *   setup STEP FIRST
+ *   setup STEP FIRST RULE  of which a mark takes no rule
  *   lend LIST NUMBERS..    the list now holds these numbers, and is as long
  *   call FUNCTION [N]      with the lists as they then stand; N: the place of an edit, the row of a mark
  *   gave N                 what that call gives back,
@@ -27,7 +27,7 @@ static const u64 SEED = 1, MOST = UINT64_MAX;
 /* ---- What is lent */
 
 static struct {
-    u64 step, first;
+    u64 step, first, rule;
     struct list rain, subareas, pond, inflow, outflow, storage, fresh;
 } lent;
 
@@ -50,7 +50,8 @@ static void lend_pond(const struct site *s)
 {
     lent.step = s->step;
     lent.first = s->first;
-    printf("setup %" PRIu64 " %" PRIu64 "\n", s->step, s->first);
+    lent.rule = s->rule;
+    printf("setup %" PRIu64 " %" PRIu64 " %" PRIu64 "\n", s->step, s->first, s->rule);
     lend("pond", &lent.pond, s->pond.at, s->pond.len);
 }
 
@@ -92,8 +93,8 @@ static void call_study(void)
 {
     u64 answer[BT_ANSWER_LENGTH];
     printf("call bt_study\n");
-    printf("gave %" PRIu64 "\n", bt_study(lent.step, lent.first, LENT(rain), LENT(subareas), LENT(pond), LENT(inflow),
-                                          LENT(outflow), LENT(storage), answer));
+    printf("gave %" PRIu64 "\n", bt_study(lent.step, lent.first, lent.rule, LENT(rain), LENT(subareas), LENT(pond),
+                                          LENT(inflow), LENT(outflow), LENT(storage), answer));
     print_numbers("due", "answer", answer, BT_ANSWER_LENGTH);
     print_rows();
 }
@@ -102,8 +103,8 @@ static void call_study_records(void)
 {
     u64 answer[BT_ANSWER_LENGTH];
     printf("call bt_study_records\n");
-    printf("gave %" PRIu64 "\n", bt_study_records(lent.step, lent.first, LENT(rain), LENT_RECORDS, LENT(pond),
-                                                  LENT(inflow), LENT(outflow), LENT(storage), answer));
+    printf("gave %" PRIu64 "\n", bt_study_records(lent.step, lent.first, lent.rule, LENT(rain), LENT_RECORDS,
+                                                  LENT(pond), LENT(inflow), LENT(outflow), LENT(storage), answer));
     print_numbers("due", "answer", answer, BT_ANSWER_LENGTH);
     print_rows();
 }
@@ -121,8 +122,8 @@ static void call_edit(u64 place)
     u64 answer[BT_EDIT_ANSWER_LENGTH];
     int64_t changes[BT_CHANGES_LENGTH];
     printf("call bt_edit %" PRIu64 "\n", place);
-    u64 gave = bt_edit(lent.step, lent.first, LENT(rain), LENT(subareas), LENT(pond), LENT(inflow), LENT(outflow),
-                       LENT(storage), place, lent.fresh.at, answer, changes);
+    u64 gave = bt_edit(lent.step, lent.first, lent.rule, LENT(rain), LENT(subareas), LENT(pond), LENT(inflow),
+                       LENT(outflow), LENT(storage), place, lent.fresh.at, answer, changes);
     print_edit(gave, answer, changes);
 }
 
@@ -131,7 +132,7 @@ static void call_edit_records(u64 place)
     u64 answer[BT_EDIT_ANSWER_LENGTH];
     int64_t changes[BT_CHANGES_LENGTH];
     printf("call bt_edit_records %" PRIu64 "\n", place);
-    u64 gave = bt_edit_records(lent.step, lent.first, LENT(rain), LENT_RECORDS, LENT(pond), LENT(inflow),
+    u64 gave = bt_edit_records(lent.step, lent.first, lent.rule, LENT(rain), LENT_RECORDS, LENT(pond), LENT(inflow),
                                LENT(outflow), LENT(storage), place, lent.fresh.at, answer, changes);
     print_edit(gave, answer, changes);
 }
@@ -311,6 +312,7 @@ static void other_faults(struct edit *e, struct prng *r)
 
 static const u64 SEGMENTS[][BT_SEGMENT_WIDTH] = {
     { BT_SEGMENT_SHEET, 100, 240, 3600, 100 },
+    { BT_SEGMENT_SHEET, 101, 240, 3600, 100 },
     { BT_SEGMENT_SHEET, 1, 1, 30000, 10000 },
     { BT_SEGMENT_SHEET, 300, 999, 30000, 10000 },
     { BT_SEGMENT_SHEET, 300, 999, 1, 1 },
@@ -335,10 +337,11 @@ static const u64 SEGMENTS[][BT_SEGMENT_WIDTH] = {
 };
 
 /* As segment 'at' of the second subarea, from 0: in a study, and as it is put there by an edit. */
-static void take_segment(struct edit *e, struct prng *r, const u64 *segment, size_t at)
+static void take_segment(struct edit *e, struct prng *r, u64 rule, const u64 *segment, size_t at)
 {
-    printf("case kind %" PRIu64 " as segment %zu\n", segment[BT_KIND_AT], at + 1);
+    printf("case kind %" PRIu64 " as segment %zu, by rule %" PRIu64 "\n", segment[BT_KIND_AT], at + 1, rule);
     start(e, r);
+    e->site.rule = rule;
     keep_record(e);
     memcpy(segment_at(e->fresh, at), segment, BT_SEGMENT_WIDTH * sizeof *segment);
     take_edit(e);
@@ -350,7 +353,37 @@ static void segments(struct edit *e, struct prng *r)
 {
     for (size_t i = 0; i < COUNT(SEGMENTS); i++)
         for (size_t at = 0; at < 2; at++)
-            take_segment(e, r, SEGMENTS[i], at);
+            for (u64 rule = BT_RULE_TR55; rule <= BT_RULE_WINTR55; rule++)
+                take_segment(e, r, rule, SEGMENTS[i], at);
+}
+
+/* ---- Sheet rules: some are 1 or 2 in their lower 32 bits. The rows stand by both that there are. */
+
+static void rules(struct edit *e, struct prng *r)
+{
+    static const u64 values[] = { 0, 1, 2, 3, 4294967297, 4294967298, 9223372036854775809u, UINT64_MAX };
+    start(e, r);
+    for (size_t i = 0; i < COUNT(values); i++) {
+        printf("case rule %" PRIu64 "\n", values[i]);
+        e->site.rule = values[i];
+        take_all(e, 1);
+    }
+}
+
+/* A sheet that rule 1 lets stand: in the list, whichever place is edited, and by both rules. */
+static void standing_sheets(struct edit *e, struct prng *r)
+{
+    for (u64 place = 1; place <= 5; place++)
+        for (u64 rule = BT_RULE_TR55; rule <= BT_RULE_WINTR55; rule++) {
+            printf("case 300 ft of sheet flow in the list, by rule %" PRIu64 "\n", rule);
+            start(e, r);
+            e->place = place;
+            e->site.rule = BT_RULE_TR55;
+            set_sheet(record_at(&e->site, 2), 300);
+            stand(e);
+            e->site.rule = rule;
+            take_all(e, 1);
+        }
 }
 
 /* ---- Random inputs, good and bad */
@@ -382,6 +415,8 @@ int main(void)
     study_faults(&e, &r);
     other_faults(&e, &r);
     segments(&e, &r);
+    rules(&e, &r);
+    standing_sheets(&e, &r);
     random_sites(&e);
     return 0;
 }

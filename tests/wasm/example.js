@@ -1,4 +1,4 @@
-// Three studies from JavaScript, one refused: those of tests/host/example, with the same numbers; what is altered there
+// Four studies from JavaScript, two refused: those of tests/host/example, with the same numbers; what is altered there
 // by an edit is here a new study. tests/wasm/run runs this and compares what it prints.
 //
 //     node tests/wasm/example.js ENGINE.wasm
@@ -9,7 +9,7 @@ const fs = require("fs");
 
 const engine = new WebAssembly.Instance(new WebAssembly.Module(fs.readFileSync(process.argv[2])), {}).exports;
 
-const INTERFACE = 3n; // what this was written for
+const INTERFACE = 4n; // what this was written for
 if (engine.bt_interface() !== INTERFACE) {
     throw new Error(`the engine has interface ${engine.bt_interface()}, not ${INTERFACE}`);
 }
@@ -56,7 +56,7 @@ const lots = record([[14, 2, 800], [4, 2, 200]], [unpaved(300, 200), given(1200,
 const woods = record([[20, 3, 600]], [unpaved(1500, 300)]);
 const built = record(
     [[12, 3, 500], [20, 3, 100]],
-    [sheet(100, 150, 3600, 200), paved(1400, 300), channel(400, 30, 80, 100)],
+    [sheet(150, 150, 3600, 200), paved(1400, 300), channel(400, 30, 80, 100)],
 );
 const subareas = lend([...lots, ...woods]);
 const altered = lend([...lots, ...built]);
@@ -66,9 +66,12 @@ const answer = lend(Array(12).fill(0));
 
 const step = 300n; // seconds
 const first = 1n; // the first row's number
+const TR55 = 1n; // sheet rules: sheet flow to 300 ft,
+const WINTR55 = 2n; // and to 100 ft
+const REFUSED_SEGMENTS = 7n;
 const REFUSED_RISE = 19n;
-const study = (rain, subareas) => engine.bt_study(
-    step, first, ...slice(rain), ...slice(subareas), ...slice(pond),
+const study = (rule, rain, subareas) => engine.bt_study(
+    step, first, rule, ...slice(rain), ...slice(subareas), ...slice(pond),
     ...slice(inflow), ...slice(outflow), ...slice(storage), answer.byteOffset,
 );
 
@@ -95,8 +98,11 @@ function print(what, refusal) {
     thousandths("greatest stage", answer[7], "ft");
 }
 
-if (study(slipped, subareas) === REFUSED_RISE) {
+if (study(TR55, slipped, subareas) === REFUSED_RISE) {
     refused("the study with a slipped decimal");
 }
-print("the study", study(rain, subareas));
-print("with the second subarea built over", study(rain, altered));
+if (study(WINTR55, rain, altered) === REFUSED_SEGMENTS) {
+    refused("the study with sheet flow past 100 ft, by the rule of 100 ft,");
+}
+print("the study", study(TR55, rain, subareas));
+print("with the second subarea built over", study(TR55, rain, altered));

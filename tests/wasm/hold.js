@@ -46,13 +46,15 @@ function write(words, name, numbers) {
 
 // ---- Calls
 
-const setup = { step: 0n, first: 0n };
+const setup = { step: 0n, first: 0n, rule: 0n };
 let width = 0; // the numbers of a record
 const at = (name) => lists.get(name).at;
 const lend = (name) => [at(name), BigInt(lists.get(name).length)];
 const records = () => [at("subareas"), BigInt(lists.get("subareas").length / width)];
 const rows = () => [...lend("inflow"), ...lend("outflow"), ...lend("storage")];
-const run = (subareas) => [setup.step, setup.first, ...lend("rain"), ...subareas, ...lend("pond"), ...rows()];
+const run = (subareas) => [
+    setup.step, setup.first, setup.rule, ...lend("rain"), ...subareas, ...lend("pond"), ...rows(),
+];
 const change = (place) => [place, at("fresh"), at("answer"), at("changes")];
 
 const parameters = {
@@ -135,9 +137,10 @@ const words = {
     case: (...text) => {
         about = text.join(" ");
     },
-    setup: (step, first) => {
+    setup: (step, first, rule) => {
         setup.step = BigInt(step);
         setup.first = BigInt(first);
+        setup.rule = BigInt(rule);
     },
     lend: (name, ...numbers) => {
         const list = lists.get(name);
@@ -171,10 +174,10 @@ function deepest() {
 
 const upTo = (n) => Array.from({ length: n }, (_, i) => i + 1);
 const REFUSALS = {
-    bt_study: [...upTo(14), 19],
-    bt_study_records: [...upTo(14), 19],
-    bt_edit: [...upTo(17), 19],
-    bt_edit_records: [...upTo(17), 19],
+    bt_study: [...upTo(14), 19, 20],
+    bt_study_records: [...upTo(14), 19, 20],
+    bt_edit: [...upTo(17), 19, 20],
+    bt_edit_records: [...upTo(17), 19, 20],
     bt_mark: [1, 2, 4, 12, 13, 17, 18],
 };
 

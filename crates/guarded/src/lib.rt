@@ -109,19 +109,20 @@ fn depths(n: &[u64], curve: u64) -> Four {
     }
 }
 
-// What stands third, fourth and fifth is by the kind.
+// What stands third, fourth and fifth is by the kind. A segment by itself is of no study and has no sheet rule: no time depends
+// on it, and it is tested by the farther limit.
 fn segment(kind: u64, length: u64, third: u64, fourth: u64, fifth: u64) -> u64 {
     let one = [kind, length, third, fourth, fifth];
-    if travel::segments_good(&one) {
+    if travel::segments_good(travel::sheet_limit(travel::TR55), &one) {
         travel::segment_time(kind, length, third, fourth, fifth)
     } else {
         NONE
     }
 }
 
-// Tc and Tp of segments, five numbers each, at a step.
+// Tc and Tp of segments, five numbers each, at a step; by the farther limit, as a segment.
 fn path(step: u64, segments: &[u64]) -> Four {
-    if travel::segments_good(segments) {
+    if travel::segments_good(travel::sheet_limit(travel::TR55), segments) {
         let tc = travel::concentration(segments);
         let at = timing(step, tc);
         two(tc, at.a)

@@ -14,9 +14,9 @@ const ROOM: usize = 400;
 // More than a list of numbers has.
 const MOST: u64 = 2048;
 
-// What stands before the lists: the step, the first row's number in millions and what is over, the rows, the rain entries, the
-// numbers of the subareas.
-const BEFORE: usize = 6;
+// What stands before the lists: the step, the first row's number in millions and what is over, the sheet rule, the rows, the rain
+// entries, the numbers of the subareas.
+const BEFORE: usize = 7;
 
 // The greatest inflow row, the first that has it, and the total inflow.
 fn greatest(rows: &[u64], total: u64) -> Four {
@@ -80,7 +80,7 @@ fn worked(
     outflow: &mut [u64],
     storage: &mut [u64],
 ) -> Four
-    requires { ⌜ (6 ≤ a) × ((a ≤ e) × (e ≤ length (now n))) ⌝ }
+    requires { ⌜ (7 ≤ a) × ((a ≤ e) × (e ≤ length (now n))) ⌝ }
 {
     let answer = study::run(
         setup,
@@ -96,7 +96,7 @@ fn worked(
 
 fn lent(told: u8, setup: Setup, m: usize, n: &[u64], a: usize, e: usize) -> Four
     requires { ⌜ m ≤ 400 ⌝ }
-    requires { ⌜ (6 ≤ a) × ((a ≤ e) × (e ≤ length (now n))) ⌝ }
+    requires { ⌜ (7 ≤ a) × ((a ≤ e) × (e ≤ length (now n))) ⌝ }
 {
     let mut inflow = [0u64; ROOM];
     let mut outflow = [0u64; ROOM];
@@ -124,23 +124,24 @@ pub(crate) fn run(told: u8, n: &[u64]) -> Four {
     if n[2] > 999999 {
         return two(NONE, NONE);
     }
-    if n[3] > ROOM as u64 {
-        return two(NONE, NONE);
-    }
-    if n[4] > MOST {
+    if n[4] > ROOM as u64 {
         return two(NONE, NONE);
     }
     if n[5] > MOST {
         return two(NONE, NONE);
     }
-    let a = BEFORE + n[4] as usize;
-    let e = a + n[5] as usize;
+    if n[6] > MOST {
+        return two(NONE, NONE);
+    }
+    let a = BEFORE + n[5] as usize;
+    let e = a + n[6] as usize;
     if e > n.len() {
         return two(NONE, NONE);
     }
     let setup = Setup {
         step: n[0],
         first: n[1] * 1000000 + n[2],
+        rule: n[3],
     };
-    lent(told, setup, n[3] as usize, n, a, e)
+    lent(told, setup, n[4] as usize, n, a, e)
 }

@@ -5,22 +5,24 @@ pub const STEP: u64 = 1;
 
 pub const FIRST: u64 = 2;
 
-pub const ENTRIES: u64 = 3;
+pub const RULE: u64 = 3;
 
-pub const ENTRY: u64 = 4;
+pub const ENTRIES: u64 = 4;
 
-pub const SUBAREAS: u64 = 5;
+pub const ENTRY: u64 = 5;
 
-pub const PATCHES: u64 = 6;
+pub const SUBAREAS: u64 = 6;
 
-pub const PATCH: u64 = 7;
+pub const PATCHES: u64 = 7;
 
-pub const SEGMENTS: u64 = 8;
+pub const PATCH: u64 = 8;
 
-pub const SEGMENT: u64 = 9;
+pub const SEGMENTS: u64 = 9;
 
-pub const POND_ROWS: u64 = 10;
+pub const SEGMENT: u64 = 10;
 
-pub const POND_ROW: u64 = 11;
+pub const POND_ROWS: u64 = 11;
 
-pub const END: u64 = 12;
+pub const POND_ROW: u64 = 12;
+
+pub const END: u64 = 13;

@@ -46,7 +46,8 @@ pub fn read(s: &[u8], rain: &mut [u64], subareas: &mut [u64], pond: &mut [u64]) 
     );
     let step = numbers::next(s, rows, items::STEP, 0, 0);
     let first = numbers::next(s, step, items::FIRST, 0, 0);
-    let entries = lists::rain_entries(s, first, rain);
+    let rule = numbers::next(s, first, items::RULE, 0, 0);
+    let entries = lists::rain_entries(s, rule, rain);
     let records = lists::subarea_records(s, entries.end, subareas);
     let table = lists::pond_rows(s, records.end, pond);
     let end = numbers::finish(s, table.end, items::END);
@@ -54,6 +55,7 @@ pub fn read(s: &[u8], rain: &mut [u64], subareas: &mut [u64], pond: &mut [u64]) 
         setup: Setup {
             step: step.value,
             first: first.value,
+            rule: rule.value,
         },
         rows: rows.value as usize,
         rain: entries.used,

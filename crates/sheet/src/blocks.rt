@@ -8,6 +8,8 @@ use reading::items::SEGMENT;
 use reading::items::SUBAREAS;
 use study::Figures;
 use subarea::Setup;
+use travel::TR55;
+use travel::WINTR55;
 ghost use mathlib.Core.Path.{_≡_};
 ghost use Prim.Native.Nat.{_+_, _-_, _*_, _/_, _≤_, _<_};
 ghost use lib.ListN.{length};
@@ -30,17 +32,21 @@ fn rain_total(rain: &[u64]) -> u64 {
     }
 }
 
+// A study that was not refused has one of these.
+fn rule_line(rule: u64) {
+    match rule {
+        TR55 => texts::head(texts::TR55_RULE),
+        WINTR55 => texts::head(texts::WINTR55_RULE),
+        _ => {}
+    }
+}
+
 fn heading(setup: Setup, rows: u64, rain: &[u64]) {
+    texts::sheet(texts::HEADING, &[setup.step, setup.step, setup.first]);
+    rule_line(setup.rule);
     texts::sheet(
-        texts::HEADING,
-        &[
-            setup.step,
-            setup.step,
-            setup.first,
-            rows,
-            rain_total(rain),
-            rain.len() as u64,
-        ],
+        texts::ROWS_AND_RAIN,
+        &[rows, rain_total(rain), rain.len() as u64],
     );
 }
 
@@ -51,10 +57,11 @@ fn weights(peak: u64, step: u64) -> u64
     5 * peak / step
 }
 
-// A study that was not refused has no step and no record that fails these tests.
-fn subarea_line(step: u64, number: u64, own: &[u64])
+// A study that was not refused has no step, and by its sheet rule no record, that fails these tests.
+fn subarea_line(setup: Setup, number: u64, own: &[u64])
     requires { ⌜ length (now own) ≡ width ⌝ }
 {
+    let step = setup.step;
     if step < limits::LEAST_STEP {
         return;
     }
@@ -64,7 +71,7 @@ fn subarea_line(step: u64, number: u64, own: &[u64])
     if !subarea::patches_pass(own) {
         return;
     }
-    if !subarea::segments_pass(own) {
+    if !subarea::segments_pass(setup.rule, own) {
         return;
     }
     let ground = subarea::ground(own);
@@ -78,48 +85,50 @@ fn subarea_line(step: u64, number: u64, own: &[u64])
 }
 
 // One record's lines in the block of its figures, its patches or its segments.
-fn record_lines(item: u64, step: u64, number: u64, own: &[u64])
+fn record_lines(item: u64, setup: Setup, number: u64, own: &[u64])
     requires { ⌜ length (now own) ≡ width ⌝ }
 {
     let a = subarea::PATCHES;
     let e = subarea::SEGMENT_COUNT;
     let b = subarea::SEGMENTS;
+    let rule = setup.rule;
     match item {
-        PATCH => lists::lines(item, curve::PATCH_WIDTH, number, &own[a..e]),
-        SEGMENT => lists::lines(item, travel::SEGMENT_WIDTH, number, &own[b..]),
-        _ => subarea_line(step, number, own),
+        PATCH => lists::lines(item, curve::PATCH_WIDTH, rule, number, &own[a..e]),
+        SEGMENT => lists::lines(item, travel::SEGMENT_WIDTH, rule, number, &own[b..]),
+        _ => subarea_line(setup, number, own),
     }
 }
 
-fn records(item: u64, step: u64, list: &[u64]) {
+fn records(item: u64, setup: Setup, list: &[u64]) {
     let n = list.len() / subarea::WIDTH;
     let mut i = 0;
     while i < n {
         let a = subarea::WIDTH * i;
         let e = a + subarea::WIDTH;
         i += 1;
-        record_lines(item, step, i as u64, &list[a..e]);
+        record_lines(item, setup, i as u64, &list[a..e]);
     }
 }
 
-fn subarea_blocks(step: u64, list: &[u64]) {
+fn subarea_blocks(setup: Setup, list: &[u64]) {
     texts::head(texts::SUBAREAS);
-    records(SUBAREAS, step, list);
+    records(SUBAREAS, setup, list);
     texts::head(texts::PATCHES);
-    records(PATCH, step, list);
+    records(PATCH, setup, list);
     texts::head(texts::SEGMENTS);
-    records(SEGMENT, step, list);
+    records(SEGMENT, setup, list);
 }
 
+// A pond row follows no sheet rule and is of no subarea.
 fn pond_table(pond: &[u64]) {
     texts::head(texts::POND);
-    lists::lines(POND_ROW, pond::ROW_WIDTH, 0, pond);
+    lists::lines(POND_ROW, pond::ROW_WIDTH, 0, 0, pond);
 }
 
 // What was asked: the site with its lists.
 pub(crate) fn given(setup: Setup, rows: u64, rain: &[u64], subareas: &[u64], pond: &[u64]) {
     heading(setup, rows, rain);
-    subarea_blocks(setup.step, subareas);
+    subarea_blocks(setup, subareas);
     pond_table(pond);
 }
 

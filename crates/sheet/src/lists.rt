@@ -20,9 +20,9 @@ fn patch_line(of: u64, own: &[u64]) {
 }
 
 // Each number has a column of its own, which its kind's text knows. A place that no segment was laid in does not pass; a sheet
-// segment does, since alone it stands first.
-fn segment_line(of: u64, own: &[u64]) {
-    if !travel::segments_good(own) {
+// segment does by the study's rule, since alone it stands first.
+fn segment_line(rule: u64, of: u64, own: &[u64]) {
+    if !travel::segments_good(travel::sheet_limit(rule), own) {
         return;
     }
     let kind = own[0];
@@ -38,23 +38,23 @@ fn segment_line(of: u64, own: &[u64]) {
     }
 }
 
-fn line(item: u64, of: u64, own: &[u64]) {
+fn line(item: u64, rule: u64, of: u64, own: &[u64]) {
     match item {
         PATCH => patch_line(of, own),
-        SEGMENT => segment_line(of, own),
+        SEGMENT => segment_line(rule, of, own),
         POND_ROW => texts::sheet(texts::POND_ROW, own),
         _ => {}
     }
 }
 
-// Each item of a list that has so many numbers an item.
-pub(crate) fn lines(item: u64, width: usize, of: u64, list: &[u64])
+// Each item of a list that has so many numbers an item. Of the items only segments follow the sheet rule.
+pub(crate) fn lines(item: u64, width: usize, rule: u64, of: u64, list: &[u64])
     requires { ⌜ 1 ≤ width ⌝ }
 {
     let mut at = 0;
     while width <= list.len() - at {
         let e = at + width;
-        line(item, of, &list[at..e]);
+        line(item, rule, of, &list[at..e]);
         at = e;
     }
 }

@@ -6,25 +6,31 @@ ghost use Prim.Native.Nat.{_≤_};
 
 pub(crate) const HEADING: u64 = 0;
 
-pub(crate) const SUBAREAS: u64 = 1;
+pub(crate) const TR55_RULE: u64 = 1;
 
-pub(crate) const SUBAREA: u64 = 2;
+pub(crate) const WINTR55_RULE: u64 = 2;
+
+pub(crate) const ROWS_AND_RAIN: u64 = 3;
+
+pub(crate) const SUBAREAS: u64 = 4;
+
+pub(crate) const SUBAREA: u64 = 5;
 
 // The lines of soil groups 1 to 4 stand behind this one.
-pub(crate) const PATCHES: u64 = 3;
+pub(crate) const PATCHES: u64 = 6;
 
 // The lines of kinds 1 to 5 stand behind this one.
-pub(crate) const SEGMENTS: u64 = 8;
+pub(crate) const SEGMENTS: u64 = 11;
 
-pub(crate) const POND: u64 = 14;
+pub(crate) const POND: u64 = 17;
 
-pub(crate) const POND_ROW: u64 = 15;
+pub(crate) const POND_ROW: u64 = 18;
 
-pub(crate) const ROWS: u64 = 16;
+pub(crate) const ROWS: u64 = 19;
 
-pub(crate) const ROW: u64 = 17;
+pub(crate) const ROW: u64 = 20;
 
-pub(crate) const FIGURES: u64 = 18;
+pub(crate) const FIGURES: u64 = 21;
 
 // A text of the sheet with its values.
 pub(crate) fn sheet(k: u64, values: &[u64]) {
@@ -32,7 +38,9 @@ pub(crate) fn sheet(k: u64, values: &[u64]) {
         \n\
         Step          # s = #:00:00 (h:mm:ss)\n\
         First row     #\n\
-        Rows          #\n\
+        |Sheet rule    sheet flow to 300 ft (TR-55, 1986)\n\
+        |Sheet rule    sheet flow to 100 ft (WinTR-55; NEH 630, chapter 15)\n\
+        |Rows          #\n\
         Rain total    #.000 in\n\
         Rain entries  #\n\
         |\nSubarea    Area, ac  Curve number   Tc, s   Tp, s  Weights\n\
@@ -90,23 +98,23 @@ pub(crate) const TOO_LONG: u64 = 11;
 // By `reading::items`; patches, segments and pond rows by their columns.
 pub(crate) const ITEMS: u64 = 12;
 
-pub(crate) const PATCH_COLUMNS: u64 = 25;
+pub(crate) const PATCH_COLUMNS: u64 = 26;
 
-pub(crate) const SEGMENT_COLUMNS: u64 = 28;
+pub(crate) const SEGMENT_COLUMNS: u64 = 29;
 
-pub(crate) const POND_COLUMNS: u64 = 33;
+pub(crate) const POND_COLUMNS: u64 = 34;
 
-pub(crate) const OF_SUBAREA: u64 = 36;
+pub(crate) const OF_SUBAREA: u64 = 37;
 
-pub(crate) const AT_MOST: u64 = 37;
+pub(crate) const AT_MOST: u64 = 38;
 
-pub(crate) const AT_MOST_ROWS: u64 = 38;
+pub(crate) const AT_MOST_ROWS: u64 = 39;
 
-pub(crate) const LINE_END: u64 = 39;
+pub(crate) const LINE_END: u64 = 40;
 
 // By the refusal's number: what the place counts, and the rule. They stand last, so that a new one moves no other text; 15 to 18
 // are no study's.
-pub(crate) const RULES: u64 = 40;
+pub(crate) const RULES: u64 = 41;
 
 // A text of standard error, with a number.
 pub(crate) fn fault(k: u64, n: u64) {
@@ -122,7 +130,7 @@ pub(crate) fn fault(k: u64, n: u64) {
         |: cannot be opened\n\
         |: cannot be read\n\
         |: is longer than 65,536 bytes\n\
-        |the number of rows|the step|the first row number|the number of rain entries|rain entry #\
+        |the number of rows|the step|the first row number|the sheet rule|the number of rain entries|rain entry #\
         |the number of subareas|the number of patches||the number of segments||the number of pond rows||the end of the file\
         |the cover of patch #|the soil group of patch #|the area of patch #\
         |the kind of segment #|the length of segment #|the slope, velocity or n of segment #\
@@ -140,7 +148,7 @@ pub(crate) fn fault(k: u64, n: u64) {
         |: the number of subareas must be from 1 to 16\n\
         | (subarea): it must have 1 to 8 patches, each of cover 1 to 22, soil group 1 to 4 and 0.01 to 2,000 acres\n\
         | (subarea): it must have 1 to 6 segments, each of kind 1 to 5, length 1 to 4,000 ft, \
-        slope, velocity and radius 1 to 10,000, n 1 to 999 and 2-year rain 1 to 30,000; only the first may be a sheet segment (kind 4), of at most 300 ft\n\
+        slope, velocity and radius 1 to 10,000, n 1 to 999 and 2-year rain 1 to 30,000; only the first may be a sheet segment (kind 4), of at most 300 ft by sheet rule 1, 100 ft by 2\n\
         |: all subareas together must have at most 2,000 acres\n\
         | (subarea): its time of concentration must be at most 36,000 seconds\n\
         | (subarea): the step must not be longer than its time to peak\n\
@@ -149,7 +157,8 @@ pub(crate) fn fault(k: u64, n: u64) {
         | (pond row): it must store at least half a step of its discharge\n\
         | (row): its water must not be more than the last pond row can hold and release\n\
         ||||\
-        | (rain entry): it must be at most 4 inches above the one before\n";
+        | (rain entry): it must be at most 4 inches above the one before\n\
+        |: the sheet rule must be 1 (300 ft, TR-55 of 1986) or 2 (100 ft, WinTR-55 and NEH 630 chapter 15)\n";
     pictures::print(STDERR_FILENO, all, k, &[n]);
 }
 

@@ -1,6 +1,6 @@
 /*
- * A study that is refused, one that is not, an edit of it and its chart marks, from C. tests/host/run builds this, runs
- * it, and compares what it prints with example.txt.
+ * Two studies that are refused, one that is not, an edit of it and its chart marks, from C. tests/host/run builds this,
+ * runs it, and compares what it prints with example.txt.
  *
  *     gcc -I include tests/host/example/example.c target/staticlib/libhost.a -o example
  */
@@ -10,13 +10,14 @@
 
 #include "bridletenon.h"
 
-#if BT_INTERFACE != 3
-#error "this host was written for interface 3"
+#if BT_INTERFACE != 4
+#error "this host was written for interface 4"
 #endif
 
 enum {
-    STEP = 300,  /* seconds */
-    FIRST = 1,   /* the first row's number */
+    STEP = 300,          /* seconds */
+    FIRST = 1,           /* the first row's number */
+    RULE = BT_RULE_TR55, /* sheet flow to 300 ft; the study and its edits name the same */
     ROWS = 24,
     SUBAREAS = 2
 };
@@ -45,7 +46,7 @@ static const bt_subarea built = {
     .patches = { { .cover = 12, .soil = 3, .area = 500 }, { .cover = 20, .soil = 3, .area = 100 } },
     .segment_count = 3,
     .segments = {
-        { .kind = BT_SEGMENT_SHEET, .length = 100, .by.sheet = { .n = 150, .rain = 3600, .slope = 200 } },
+        { .kind = BT_SEGMENT_SHEET, .length = 150, .by.sheet = { .n = 150, .rain = 3600, .slope = 200 } },
         { .kind = BT_SEGMENT_PAVED, .length = 1400, .by.shallow = { .slope = 300 } },
         { .kind = BT_SEGMENT_CHANNEL, .length = 400, .by.channel = { .n = 30, .radius = 80, .slope = 100 } },
     },
@@ -92,18 +93,31 @@ static int slip(void)
     uint64_t slipped[RAIN], answer[BT_ANSWER_LENGTH];
     memcpy(slipped, rain, sizeof rain);
     slipped[RAIN - 1] = 30000;
-    if (bt_study_records(STEP, FIRST, slipped, RAIN, list, SUBAREAS, pond, POND, inflow, ROWS, outflow, ROWS, storage,
-                         ROWS, answer) != BT_REFUSED_RISE)
+    if (bt_study_records(STEP, FIRST, RULE, slipped, RAIN, list, SUBAREAS, pond, POND, inflow, ROWS, outflow, ROWS,
+                         storage, ROWS, answer) != BT_REFUSED_RISE)
         return 1;
     refused("the study with a slipped decimal", answer);
+    return 0;
+}
+
+/* The second subarea built over, by the rule that ends sheet flow at 100 ft: its lawn is longer. Subareas count from
+   1. */
+static int too_long(void)
+{
+    const bt_subarea over[SUBAREAS] = { list[0], built };
+    uint64_t answer[BT_ANSWER_LENGTH];
+    if (bt_study_records(STEP, FIRST, BT_RULE_WINTR55, rain, RAIN, over, SUBAREAS, pond, POND, inflow, ROWS, outflow,
+                         ROWS, storage, ROWS, answer) != BT_REFUSED_SEGMENTS)
+        return 1;
+    refused("the study with sheet flow past 100 ft, by the rule of 100 ft,", answer);
     return 0;
 }
 
 static int work_study(void)
 {
     uint64_t answer[BT_ANSWER_LENGTH];
-    if (bt_study_records(STEP, FIRST, rain, RAIN, list, SUBAREAS, pond, POND, inflow, ROWS, outflow, ROWS, storage,
-                         ROWS, answer) != 0)
+    if (bt_study_records(STEP, FIRST, RULE, rain, RAIN, list, SUBAREAS, pond, POND, inflow, ROWS, outflow, ROWS,
+                         storage, ROWS, answer) != 0)
         return refused("the study", answer);
     printf("the study\n");
     print_figures(answer);
@@ -115,7 +129,7 @@ static int build_over(void)
 {
     uint64_t answer[BT_EDIT_ANSWER_LENGTH];
     int64_t changes[BT_CHANGES_LENGTH];
-    if (bt_edit_records(STEP, FIRST, rain, RAIN, list, SUBAREAS, pond, POND, inflow, ROWS, outflow, ROWS, storage,
+    if (bt_edit_records(STEP, FIRST, RULE, rain, RAIN, list, SUBAREAS, pond, POND, inflow, ROWS, outflow, ROWS, storage,
                         ROWS, 2, (const uint64_t *)&built, answer, changes) != 0)
         return refused("the edit", answer);
     list[1] = built;
@@ -147,7 +161,7 @@ int main(void)
         printf("the engine that is linked has another interface than the header\n");
         return 1;
     }
-    if (slip() != 0 || work_study() != 0 || build_over() != 0)
+    if (slip() != 0 || too_long() != 0 || work_study() != 0 || build_over() != 0)
         return 1;
     for (uint64_t row = 1; row <= ROWS; row++)
         if (print_mark(row) != 0)

@@ -7,10 +7,10 @@ use Rattle.sheet.proofs.blocks.records.Statement.{statement}
 use Rattle.sheet.proofs.blocks.records.Tie as tie
 
 abbrev Inv-loop : tie.InvT-loop
-Inv-loop item step list n i₀ i = i ≤ n
+Inv-loop item setup list n i₀ i = i ≤ n
 
 abbrev μ-loop : tie.MeasureT-loop
-μ-loop item step list n i₀ i = n - i
+μ-loop item setup list n i₀ i = n - i
 
 record-lines-requires : tie.Need-record-lines-requires Inv-loop μ-loop
 record-lines-requires c κs = simp (length-take, length-drop) (omega arith)

@@ -1,23 +1,22 @@
 -- `sheet::blocks::subarea_line` prints what a record gives that passes refusals 6 and 7, at a step within its limits.
-use mathlib.Core.Path.{_≡_, sym, _∙_}
-use mathlib.Core.Bool.{true}
+use mathlib.Core.Path.{sym, _∙_}
 use borrow.Author.Tests.{not-false}
 use native.Mathlib.Omega.{arith}
 use Rattle.travel.specs.Needs.{TimeOk}
 use Rattle.travel.proofs.Times.{concentration-ok, peak-most}
-use Rattle.subarea.specs.Records.{segmentsPass}
+use Rattle.subarea.specs.Needs.{RoutedOk}
 use Rattle.subarea.proofs.Subareas.{segments-fit}
 use borrow.Author.Needs.{needs}
 use Rattle.sheet.proofs.blocks.subarea_line.Statement.{statement}
 use Rattle.sheet.proofs.blocks.subarea_line.Tie as tie
 
--- the segments pass
-routed : (c : tie.Else4) → segmentsPass (c .before .before .before .before .before .before .before .args .own .now) ≡ true
-routed c = sym (c .before .segments-pass .ensures) ∙ not-false _ (c .if4 .left)
+-- the segments pass by the sheet rule
+routed : (c : tie.Else4) → RoutedOk (c .before .before .before .before .before .before .before .args .own .now)
+routed c = segments-fit _ _ (sym (c .before .segments-pass .ensures) ∙ not-false _ (c .if4 .left))
 
 -- so that the time of concentration is one that has a time to peak
 timed : (c : tie.After-time) → TimeOk (c .time .result)
-timed c = rw (c .time .ensures) (concentration-ok (segments-fit _ (routed (c .before .before))))
+timed c = rw (c .time .ensures) (concentration-ok (routed (c .before .before) .fits))
 
 ground-requires : tie.Need-ground-requires
 ground-requires c κs =
@@ -32,7 +31,7 @@ time-to-peak-requires c κs = timed c
 weights-requires : tie.Need-weights-requires
 weights-requires c κs =
     let s = c .before .before .before .before .before .before .before .before .before .before in
-    (omega arith, omega (arith, c .time-to-peak .ensures, peak-most (s .args .step) (timed (c .before))))
+    (omega arith, omega (arith, c .time-to-peak .ensures, peak-most (s .args .setup .step) (timed (c .before))))
 
 pub subarea-line-spec : {M : Type 1} → statement M
 subarea-line-spec =

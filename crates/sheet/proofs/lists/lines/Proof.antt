@@ -6,10 +6,10 @@ use Rattle.sheet.proofs.lists.lines.Statement.{statement}
 use Rattle.sheet.proofs.lists.lines.Tie as tie
 
 abbrev Inv-loop : tie.InvT-loop
-Inv-loop item width of list at₀ at = at ≤ length list
+Inv-loop item width rule of list at₀ at = at ≤ length list
 
 abbrev μ-loop : tie.MeasureT-loop
-μ-loop item width of list at₀ at = length list - at
+μ-loop item width rule of list at₀ at = length list - at
 
 pub lines-spec : {M : Type 1} → statement M
 lines-spec =
