@@ -183,11 +183,12 @@ pub fn run_checks(
 ) -> Refusal
     ensures { λ r. ⌜ r ≡ firstRefusal (runLines (basin setup rain subareas) (found inflow outflow storage)) ⌝ }
 {
-    frame_checks(setup.step, inflow, outflow, storage)
-        .or(rule_check(setup.rule))
-        .or(rain_checks(rain, inflow.len()))
-        .or(last_check(setup.first, inflow.len()))
-        .or(records_check(subareas))
+    let frame = frame_checks(setup.step, inflow, outflow, storage);
+    let rule = rule_check(setup.rule);
+    let falls = rain_checks(rain, inflow.len());
+    let last = last_check(setup.first, inflow.len());
+    let records = records_check(subareas);
+    frame.or(rule).or(falls).or(last).or(records)
 }
 
 // 12, the count

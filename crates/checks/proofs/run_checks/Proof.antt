@@ -19,20 +19,21 @@ l s = rowsNow (s .args .inflow) (s .args .outflow) (s .args .storage)
 returns : tie.Need-returns
 unfolding firstAfter
 returns c =
-    let three = c .before .before in
-    let two = three .before .before in
-    let one = two .before .before in
-    let s = one .before .before .before .before .before .before .before .before in
+    let three = c .before in
+    let two = three .before in
+    let one = two .before in
+    let told = one .before in
+    let s = told .before .before .before .before .before .before .before .before .before .before in
     let g = x s .setup in
     let frame = frameLines (g .step) (l s) in
     let twenty = unless 20 (ruleGood (g .rule)) ∷ [] in
     let rain = rainLines (x s .rain) (asked (l s)) in
     let four = unless 4 (lastGood (g .first) (asked (l s))) ∷ [] in
     let five = unless 5 (recordsGood (x s .subareas)) ∷ [] in
-    let rule = appended frame twenty (omega arith) (one .or .ensures) (one .before .before .frame-checks .ensures) (one .before .rule-check .ensures) in
-    let fallen = appended (frame ++ twenty) rain (omega arith) (two .or2 .ensures) rule (two .before .rain-checks .ensures) in
-    let numbered = appended (frame ++ twenty ++ rain) four (omega arith) (three .or3 .ensures) fallen (three .before .last-check .ensures) in
-    appended (frame ++ twenty ++ rain ++ four) five (omega arith) (c .or4 .ensures) numbered (c .before .records-check .ensures)
+    let ruled = appended frame twenty (omega arith) (one .or .ensures) (told .before .before .before .before .frame-checks .ensures) (told .before .before .before .rule-check .ensures) in
+    let fallen = appended (frame ++ twenty) rain (omega arith) (two .or2 .ensures) ruled (told .before .before .rain-checks .ensures) in
+    let numbered = appended (frame ++ twenty ++ rain) four (omega arith) (three .or3 .ensures) fallen (told .before .last-check .ensures) in
+    appended (frame ++ twenty ++ rain ++ four) five (omega arith) (c .or4 .ensures) numbered (told .records-check .ensures)
 
 pub run-checks-spec : {M : Type 1} → statement M
 run-checks-spec =
