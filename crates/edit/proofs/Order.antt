@@ -70,18 +70,32 @@ module _ (x : Site) (l : Rows) (k : ℕ) (r : List ℕ) where
     parted : AllPass (runLines x l) × AllPass (unless 15 (placeGood (x .subareas) k) ∷ (stands ++ (alters ++ after-lists)))
     parted = both-pass (runLines x l) (unless 15 (placeGood (x .subareas) k) ∷ (stands ++ (alters ++ after-lists))) edit-passes
 
+    lists : AllPass stands × AllPass (alters ++ after-lists)
+    lists = both-pass stands (alters ++ after-lists) (parted .1 .1)
+
+    -- so each group passes
+    pub run-passes : AllPass (runLines x l)
+    run-passes = parted .0
+
+    pub list-passes : AllPass (listLines (x .setup) (x .subareas))
+    list-passes = lists .0
+
+    altered-passes : AllPass (listLines (x .setup) (altered (x .subareas) k r))
+    altered-passes = both-pass alters after-lists (lists .1) .0
+
+    pub pond-passes : AllPass (pondLines (halfOf (x .setup)) (x .pond))
+    pond-passes = both-pass (pondLines (halfOf (x .setup)) (x .pond)) (rowLines x l k r) (both-pass alters after-lists (lists .1) .1) .0
+
     -- lists of one length, and row numbers in their limit
     pub accepted : RunOk x l
-    accepted = run-ok x l (parted .0)
+    accepted = run-ok x l run-passes
 
     -- its sheet rule is 1 or 2, and no sheet of the list, nor of the altered list, runs farther than that one lets it
     pub edit-rule : RuleOk (x .setup .rule)
     edit-rule = accepted .rule
 
     pub edit-sheets : SheetsOk (x .setup) (x .subareas) × SheetsOk (x .setup) (altered (x .subareas) k r)
-    edit-sheets =
-        let lists = both-pass stands (alters ++ after-lists) (parted .1 .1) in
-        (sheets-ok (x .setup) (x .subareas) (lists .0), sheets-ok (x .setup) (altered (x .subareas) k r) (both-pass alters after-lists (lists .1) .0))
+    edit-sheets = (sheets-ok (x .setup) (x .subareas) list-passes, sheets-ok (x .setup) (altered (x .subareas) k r) altered-passes)
 
     -- every row's number is below 9007199254740992
     pub edit-numbers : (i : ℕ) → i < length (l .inflow) → x .setup .first + i < 9007199254740992

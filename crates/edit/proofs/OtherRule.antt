@@ -1,9 +1,8 @@
 -- Rows of one sheet rule, edited by another: that the two are one is a premise of demand 3, and an edit cannot see it; where such an edit is done, it is a new study by its own rule all the same. Assumes nothing.
 use mathlib.Core.Path.{_≡_, sym, _∙_, subst}
-use mathlib.Core.List.{List, [], _∷_, _++_}
+use mathlib.Core.List.{List, [], _∷_}
 use Prim.Native.Nat.{ℕ, _≤_}
 use lib.ListN.{length}
-use Rattle.refusals.specs.Refusals.{unless}
 use Rattle.refusals.proofs.Orders.{both-pass, pass-both, pass-none, none-new}
 use Rattle.subarea.specs.Records.{width, recordsIn, halfOf}
 use Rattle.checks.specs.Site.{Site, Rows, withRule}
@@ -12,10 +11,9 @@ use Rattle.study.specs.declared.StudyAnswer.the-variants as Study
 use Rattle.study.specs.Study.{overOf, studyLines, studyRefusal, studyAnswer, studyRows, studyFigures}
 use Rattle.study.proofs.Order.{study-passes}
 use Rattle.study.proofs.Rules.{rows-by-either}
-use Rattle.alter.specs.Altering.{altered, placeGood}
-use Rattle.edit.specs.Edit.{rowLines, editRefusal}
+use Rattle.edit.specs.Edit.{editRefusal}
 use Rattle.edit.specs.Standing.{Standing, studied, EditIsStudy}
-use Rattle.edit.proofs.Order.{edit-passes}
+use Rattle.edit.proofs.Order.{run-passes, list-passes, pond-passes}
 use Rattle.edit.proofs.EditIsStudy.{chain, edit-is-study}
 
 module _ {x : Site} {l : Rows} (so : Standing x l) (rule k : ℕ) (r : List ℕ) where
@@ -27,15 +25,10 @@ module _ {x : Site} {l : Rows} (so : Standing x l) (rule k : ℕ) (r : List ℕ)
     study-too : studyRefusal y l .number ≡ 0
     unfolding studyRefusal
     study-too =
-        let stands = listLines (y .setup) (y .subareas) in
-        let alters = listLines (y .setup) (altered (y .subareas) k r) in
-        let ponds = pondLines (halfOf (y .setup)) (y .pond) in
-        let rest = ponds ++ rowLines y l k r in
-        let run = both-pass (runLines y l) (unless 15 (placeGood (y .subareas) k) ∷ (stands ++ (alters ++ rest))) (edit-passes y l k r done) in
-        let lists = both-pass stands (alters ++ rest) (run .1 .1) in
-        let table = both-pass ponds (rowLines y l k r) (both-pass alters rest (lists .1) .1) .0 in
+        let inflow = pass-both (runLines y l) (listLines (y .setup) (y .subareas)) (run-passes y l k r done) (list-passes y l k r done) in
+        let checks = pass-both (inflowLines y l) (pondLines (halfOf (y .setup)) (y .pond)) inflow (pond-passes y l k r done) in
         let over = both-pass (checkLines x l) (overOf x l ∷ []) (study-passes x l (chain so .done)) .1 in
-        pass-none (studyLines y l) (pass-both (checkLines y l) (overOf y l ∷ []) (pass-both (inflowLines y l) ponds (pass-both (runLines y l) stands (run .0) (lists .0)) table) over)
+        pass-none (studyLines y l) (pass-both (checkLines y l) (overOf y l ∷ []) checks over)
 
     -- so the rows stand on the site by that rule
     pub stand-by : Standing y l

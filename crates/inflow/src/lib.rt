@@ -56,8 +56,8 @@ pub fn fill(setup: Setup, rain: &[u64], subareas: &[u64], rows: &mut [u64])
     add_records(setup, rain, subareas, rows);
 }
 
-// The inflow rows alone: refusals 1 to 11, with 20 after 2 and 19 after 3, and no pond. Of the outflow and storage lists only the lengths are
-// read.
+// The inflow rows alone: refusals 1 to 11, with 20 after 2 and 19 after 3, and no pond. Of the outflow and storage lists only
+// the lengths are read.
 pub fn run(
     setup: Setup,
     rain: &[u64],

@@ -1,6 +1,6 @@
 // A row's mark and point for a chart, as doubles. Each is a whole number below 2^53, so nothing is rounded.
-// Units: step in seconds, outflow in thousandths of a cfs, storage in thousandths of a cubic foot, stage in thousandths of a ft; half is half
-// the step, in seconds; rows count from 1.
+// Units: step in seconds, half is half of it; outflow in thousandths of a cfs, storage in thousandths of a cubic foot, stage in
+// thousandths of a ft; rows count from 1.
 use refusals::Refusal;
 ghost use mathlib.Core.Path.{_≡_};
 ghost use Prim.Native.Nat.{_≤_};
