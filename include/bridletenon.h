@@ -29,7 +29,7 @@ extern "C" {
    leaves. bt_interface gives that of the engine that is linked: where the two differ, the host was built for another one
    and must not call it. A host that keeps rows keeps the number beside them: rows of a lower one may be of another rule,
    which nothing in them shows (docs/HOST.md, 'Rows kept from before a request'). */
-#define BT_INTERFACE 4
+#define BT_INTERFACE 5
 
 uint64_t bt_interface(void);
 

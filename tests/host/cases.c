@@ -680,19 +680,39 @@ static void set_cover(struct site *s, size_t i, u64 code)
     patch[2] = 100000;
 }
 
-/* Rain about the greatest that yields nothing, for every cover and soil. */
+/* Rain about the greatest that yields nothing. */
+static void rain_about_dry(const char *kind, struct site *s, struct prng *r)
+{
+    u64 tenths = reference_tenths(record_at(s, 0)), dry = (2000000 - 2000 * tenths) / tenths;
+    const u64 rains[] = { 1, dry / 2, dry - 1, dry, dry + 1, dry + 2, dry + 20, between(r, 1, 30000), 30000 };
+    for (size_t i = 0; i < COUNT(rains); i++) {
+        pour(s, rains[i]);
+        take_site(kind, s);
+    }
+}
+
 static void drizzle(struct site *s, struct prng *r)
 {
     lone_site(s);
     for (u64 code = 0; code < 88; code++) {
         set_cover(s, 0, code);
-        u64 curve = reference_curve(record_at(s, 0)), dry = (200000 - 2000 * curve) / curve;
-        const u64 rains[] = { 1, dry / 2, dry - 1, dry, dry + 1, dry + 2, dry + 20, between(r, 1, 30000), 30000 };
-        for (size_t i = 0; i < COUNT(rains); i++) {
-            pour(s, rains[i]);
-            take_site("drizzle", s);
-        }
+        rain_about_dry("drizzle on every cover and soil", s, r);
     }
+}
+
+/* Any mean; and 57 and 68 in equal areas, 62.5: of the numbers with a tenth the only one with a rain at which N is 0,
+   1.2 in. */
+static void drizzle_on_means(struct site *s, struct prng *r)
+{
+    lone_site(s);
+    u64 *record = record_at(s, 0);
+    for (int i = 0; i < 300; i++) {
+        random_patches(record, r, between(r, 2, BT_MOST_PATCHES), 200000);
+        rain_about_dry("drizzle on a mean", s, r);
+    }
+    static const u64 halves[] = { 2, 13, 1, 100000, 1, 1, 100000 };
+    memcpy(record, halves, sizeof halves);
+    rain_about_dry("drizzle on 62.5", s, r);
 }
 
 /* Equal areas of any two: the mean may end on a half. */
@@ -708,15 +728,33 @@ static void means(struct site *s)
         }
 }
 
+/* Any two in parts of 1 and 19: where their sum is odd, the mean ends on half a tenth. And with a hundredth of an acre
+   more of the one, or of the other: beside it. The rain is such that every tenth shows. */
+static void tenths_beside_a_half(struct site *s)
+{
+    lone_site(s);
+    pour(s, 30000);
+    u64 *record = record_at(s, 0);
+    record[BT_PATCH_COUNT] = 2;
+    for (u64 one = 0; one < 88; one++)
+        for (u64 two = 0; two < one; two++) {
+            set_cover(s, 0, one);
+            set_cover(s, 1, two);
+            for (u64 less = 0; less < 3; less++) {
+                patch_at(record, 0)[2] = 5001 - less;
+                patch_at(record, 1)[2] = 94999 + less;
+                take_site("a mean on half a tenth, and beside it", s);
+            }
+        }
+}
+
 static void runoffs_at_random(struct site *s, struct prng *r)
 {
     lone_site(s);
-    patch_at(record_at(s, 0), 0)[2] = 200000;
     for (int i = 0; i < 2000; i++) {
-        patch_at(record_at(s, 0), 0)[0] = between(r, 1, 22);
-        patch_at(record_at(s, 0), 0)[1] = between(r, 1, 4);
+        random_patches(record_at(s, 0), r, between(r, 1, BT_MOST_PATCHES), 200000);
         pour(s, between(r, 1, 30000));
-        take_site("one rain, one cover", s);
+        take_site("one rain, one mean", s);
     }
 }
 
@@ -911,11 +949,11 @@ void chosen_cases(u64 seed)
 {
     static struct site s;
     static void (*const plain[])(struct site *) = { segment_corners, manning_corners, exact_times, greatest_times,
-                                                    spare_numbers, means };
+                                                    spare_numbers, means, tenths_beside_a_half };
     static void (*const random[])(struct site *, struct prng *) = {
         every_number_of_three_sites, record_limits_of_two_sites, times_at_random, steps, first_numbers,
         row_lengths, rain_lengths, subarea_lengths, pond_lengths, rain_entries, total_areas, concentrations, peaks,
-        weights_at_random, drizzle, runoffs_at_random, pond_limits, greatest_pond, pond_storages, full_ponds,
+        weights_at_random, drizzle, drizzle_on_means, runoffs_at_random, pond_limits, greatest_pond, pond_storages, full_ponds,
         close_lines, two_faults, every_fault_from_one_on, row_counts, rain_rises, kinds, sheet_places, rules,
         sheet_lengths, two_sheets, lengths_beside,
     };

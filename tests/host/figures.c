@@ -17,16 +17,53 @@ static void figure(const char *name, u64 got, u64 expected)
 
 static void leaves(void)
 {
-    u64 record[BT_WIDTH] = { 2, 3, 2, 50, 3, 3, 50 };
-    figure("C 80, p 3000", reference_runoff(80, 3000), 1250000);
-    figure("C 80, p 500", reference_runoff(80, 500), 0);
-    figure("C 80, p 520", reference_runoff(80, 520), 158);
-    figure("C 98, p 3000", reference_runoff(98, 3000), 2768268);
-    figure("C 40, p 8000", reference_runoff(40, 8000), 1250000);
-    figure("C of equal areas of 61 and 74", reference_curve(record), 68);
+    figure("C 80, p 3000", reference_runoff(800, 3000), 1250000);
+    figure("C 80, p 500", reference_runoff(800, 500), 0);
+    figure("C 80, p 520", reference_runoff(800, 520), 158);
+    figure("C 98, p 3000", reference_runoff(980, 3000), 2768268);
+    figure("C 40, p 8000", reference_runoff(400, 8000), 1250000);
     figure("Tp 216, D 60: weight 1", reference_weight(216, 60, 1), 170000);
     figure("Tp 216, D 60: weight 18", reference_weight(216, 60, 18), 0);
     figure("100 hundredths, depth 1,000,000", reference_volume(100, 1000000), 3630000);
+}
+
+/* ---- Tenths of curve numbers */
+
+/* Of two patches of cover 'one' and 'two' on a soil group each, with their areas. */
+static u64 tenths_of(u64 one, u64 soil, u64 area, u64 two, u64 other_soil, u64 other_area)
+{
+    const u64 record[BT_WIDTH] = { 2, one, soil, area, two, other_soil, other_area };
+    return reference_tenths(record);
+}
+
+/* 98 and 61 in parts of 85 and 15 are 92.45, and 57 and 68 in parts of 1 and 19 are 67.45: on a half, and beside it. */
+static void means(void)
+{
+    figure("tenths of equal areas of 61 and 74", tenths_of(3, 2, 50, 3, 3, 50), 675);
+    figure("tenths of 92.45", tenths_of(4, 2, 85, 3, 2, 15), 925);
+    figure("tenths of a little less", tenths_of(4, 2, 84999, 3, 2, 15001), 924);
+    figure("tenths of a little more", tenths_of(4, 2, 85001, 3, 2, 14999), 925);
+    figure("tenths of 67.45", tenths_of(13, 1, 1, 1, 1, 19), 675);
+    figure("tenths of a little less", tenths_of(13, 1, 5001, 1, 1, 94999), 674);
+    figure("tenths of 80.0", tenths_of(4, 3, 25, 3, 3, 75), 800);
+    figure("tenths of 30 and 98 in the greatest areas", tenths_of(19, 1, 200000, 4, 1, 200000), 640);
+}
+
+/* N is 0 at 62.5 and 1.2 in. At 67.5 it is above 0 from 0.963 in on, and a millionth of an inch runs off from 0.966. */
+static void runoff_of_tenths(void)
+{
+    figure("C 67.5, p 3000", reference_runoff(675, 3000), 605605);
+    figure("C 67.4, p 3000", reference_runoff(674, 3000), 601450);
+    figure("C 67.6, p 3000", reference_runoff(676, 3000), 609774);
+    figure("C 67.5, p 962", reference_runoff(675, 962), 0);
+    figure("C 67.5, p 963", reference_runoff(675, 963), 0);
+    figure("C 67.5, p 966", reference_runoff(675, 966), 1);
+    figure("C 62.5, p 1199", reference_runoff(625, 1199), 0);
+    figure("C 62.5, p 1200", reference_runoff(625, 1200), 0);
+    figure("C 62.5, p 1202", reference_runoff(625, 1202), 0);
+    figure("C 62.5, p 1203", reference_runoff(625, 1203), 1);
+    figure("C 30.1, p 30000", reference_runoff(301, 30000), 13234375);
+    figure("C 97.9, p 30000", reference_runoff(979, 30000), 29744119);
 }
 
 /* ---- Travel time */
@@ -202,25 +239,36 @@ static void peak_limits(void)
     }
 }
 
-/* The row that was left of 1 hundredth of an acre before h was in Tp, 216 s, edited to 2; and a study of 2. */
-static void row_from_before(void)
+/* A row that was left by an earlier rule, edited, and a study of the altered list: the inflow of each. */
+static void row_from_before(const char *name, u64 *old, u64 *fresh, struct state found, u64 inflow, u64 edited,
+                            u64 studied)
 {
     static const u64 rain[] = { 0, 3000 };
-    u64 old[BT_WIDTH] = { 1, 4, 1, 1 }, fresh[BT_WIDTH] = { 1, 4, 1, 2 }, inflow = 3550, outflow = 29, storage = 2680;
     u64 answer[BT_EDIT_ANSWER_LENGTH];
     int64_t changes[BT_CHANGES_LENGTH];
     set_concentration(old, 360);
     set_concentration(fresh, 360);
-    figure("an edit of a row without h in its Tp",
-           reference_edit(60, 1, BT_RULE_TR55, rain, 2, old, BT_WIDTH, POND, 6, &inflow, 1, &outflow, 1, &storage, 1, 1,
-                          fresh, answer, changes),
+    figure(name,
+           reference_edit(60, 1, BT_RULE_TR55, rain, 2, old, BT_WIDTH, POND, 6, &inflow, 1, &found.outflow, 1,
+                          &found.storage, 1, 1, fresh, answer, changes),
            0);
-    figure("its total inflow", answer[BT_INFLOW], 6116);
+    figure("its total inflow", answer[BT_INFLOW], edited);
     figure("a study of the altered list",
-           reference_study(60, 1, BT_RULE_TR55, rain, 2, fresh, BT_WIDTH, POND, 6, &inflow, 1, &outflow, 1, &storage, 1,
-                           answer),
+           reference_study(60, 1, BT_RULE_TR55, rain, 2, fresh, BT_WIDTH, POND, 6, &inflow, 1, &found.outflow, 1,
+                           &found.storage, 1, answer),
            0);
-    figure("its total inflow", answer[BT_INFLOW], 5132);
+    figure("its total inflow", answer[BT_INFLOW], studied);
+}
+
+/* Tp without h, 216 s: 1 hundredth of an acre of roofs, edited to 2. The mean 67.5 as 68: two lawns of 1, edited to 2. */
+static void rows_from_before(void)
+{
+    u64 roof[BT_WIDTH] = { 1, 4, 1, 1 }, roofs[BT_WIDTH] = { 1, 4, 1, 2 };
+    u64 lawns[BT_WIDTH] = { 2, 3, 2, 1, 3, 3, 1 }, wider[BT_WIDTH] = { 2, 3, 2, 2, 3, 3, 2 };
+    row_from_before("an edit of a row without h in its Tp", roof, roofs, (struct state){ .outflow = 29, .storage = 2680 },
+                    3550, 6116, 5132);
+    row_from_before("an edit of a row over a whole curve number", lawns, wider,
+                    (struct state){ .outflow = 9, .storage = 891 }, 1161, 2284, 2245);
 }
 
 static void limits(void)
@@ -476,6 +524,8 @@ int figures_wrong(void)
 {
     tried = wrong = 0;
     leaves();
+    means();
+    runoff_of_tenths();
     shallow_times();
     example_of_tr55();
     manning_ends();
@@ -486,7 +536,7 @@ int figures_wrong(void)
     pond_ends();
     peaks();
     peak_limits();
-    row_from_before();
+    rows_from_before();
     limits();
     rises();
     sheet_limits();

@@ -101,14 +101,15 @@ static u64 area_of(const u64 *record)
     return area;
 }
 
-static u64 curve_of(const u64 *record, u64 area)
+/* The mean curve number, in tenths. */
+static u64 tenths_of(const u64 *record, u64 area)
 {
     u64 sum = 0;
     for (u64 i = 0; i < record[BT_PATCH_COUNT]; i++) {
         const u64 *p = record + BT_PATCHES + BT_PATCH_WIDTH * i;
         sum += COVER[p[0] - 1][p[1] - 1] * p[2];
     }
-    return (2 * sum + area) / (2 * area);
+    return (20 * sum + area) / (2 * area);
 }
 
 static void add_classes(const u64 *record, u64 *answer)
@@ -416,12 +417,12 @@ static u64 fill_weights(u64 peak, u64 step, size_t count, uint32_t *weights)
 }
 
 /* The runoff of rain entries 1 to the last row's; from the end of the rain on, the last one's. Entry t at t - 1. */
-static void fill_depths(const struct job *j, u64 curve, uint32_t *depths)
+static void fill_depths(const struct job *j, u64 tenths, uint32_t *depths)
 {
-    u64 m = 800000 - 8000 * curve;
+    u64 m = 8000000 - 8000 * tenths;
     for (size_t t = 1; t < j->rain_len; t++) {
-        u64 cp = curve * j->rain[t], n = cp + 2000 * curve;
-        depths[t - 1] = n <= 200000 ? 0 : (uint32_t)(1000 * (n - 200000) * (n - 200000) / (curve * (cp + m)));
+        u64 cp = tenths * j->rain[t], n = cp + 2000 * tenths;
+        depths[t - 1] = n <= 2000000 ? 0 : (uint32_t)(1000 * (n - 2000000) * (n - 2000000) / (tenths * (cp + m)));
     }
     for (size_t t = j->rain_len; t <= j->rows; t++)
         depths[t - 1] = depths[j->rain_len - 2];
@@ -443,7 +444,7 @@ static void add_parts(const struct job *j, const u64 *record, u64 time, u64 *row
     u64 area = area_of(record), peak = peak_of(j->step, time), before = 0;
     size_t count = 5 * peak / j->step;
     u64 total = fill_weights(peak, j->step, count, weights);
-    fill_depths(j, curve_of(record, area), depths);
+    fill_depths(j, tenths_of(record, area), depths);
     for (size_t k = 1; k <= j->rows; k++) {
         u64 depth = dot(weights, depths, k, k < count ? k : count) / total, through = 363 * area * depth / 10000;
         rows[k - 1] += through - before;

@@ -67,15 +67,17 @@ static const unsigned char COVER[22][4] = {
     { 32, 58, 72, 79 },                                                                          /* 17 to 22 rural */
 };
 
-/* The area-weighted mean, to the nearest whole, halves up: the whole number not above mean + 1/2. */
-u64 reference_curve(const u64 *record)
+/* The area-weighted mean in tenths, to the nearest, halves up: the tenth below the exact mean, and one more where what
+   is left over is half a tenth or more. */
+u64 reference_tenths(const u64 *record)
 {
     u64 sum = 0, area = area_of(record);
     for (u64 i = 0; i < patch_count(record); i++) {
         const u64 *p = patch(record, i);
         sum += COVER[p[0] - 1][p[1] - 1] * p[2];
     }
-    return (2 * sum + area) / (2 * area);
+    u64 below = 10 * sum / area, over = 10 * sum % area;
+    return below + (2 * over >= area);
 }
 
 static int class_of(u64 cover)
@@ -85,11 +87,12 @@ static int class_of(u64 cover)
 
 /* ---- Runoff depth */
 
-u64 reference_runoff(u64 curve, u64 rain)
+/* Document 01's formula at C = c / 10: N and M ten times as large, which leaves the quotient as it is. */
+u64 reference_runoff(u64 tenths, u64 rain)
 {
-    wide c = curve, p = rain;
-    wide n = c * p + 2000 * c - 200000;
-    wide m = c * p + 800000 - 8000 * c;
+    wide c = tenths, p = rain;
+    wide n = c * p + 2000 * c - 2000000;
+    wide m = c * p + 8000000 - 8000 * c;
     if (n <= 0)
         return 0;
     return (u64)(1000 * n * n / (c * m));
@@ -228,11 +231,11 @@ static void work_weights(struct subarea *s, u64 peak, u64 step)
     }
 }
 
-static void work_runoffs(struct subarea *s, u64 curve, const struct lent *lent)
+static void work_runoffs(struct subarea *s, u64 tenths, const struct lent *lent)
 {
     s->entries = lent->rain_len - 1;
     for (u64 t = 0; t <= s->entries; t++)
-        s->runoff[t] = reference_runoff(curve, lent->rain[t]);
+        s->runoff[t] = reference_runoff(tenths, lent->rain[t]);
 }
 
 /* Q_t: 0 for t <= 0, the last from n on. */
@@ -266,7 +269,7 @@ void add_record(const struct lent *lent, const u64 *record, u64 *rows)
     static struct subarea s;
     s.area = area_of(record);
     work_weights(&s, reference_peak(lent->step, reference_concentration(record)), lent->step);
-    work_runoffs(&s, reference_curve(record), lent);
+    work_runoffs(&s, reference_tenths(record), lent);
     add_parts(&s, rows, lent->inflow_len);
 }
 

@@ -22,8 +22,8 @@ struct state {
 };
 
 /* What document 01 names, one function each. They ask that their numbers are within its limits. */
-u64 reference_curve(const u64 *record);                     /* C of a subarea's patches */
-u64 reference_runoff(u64 curve, u64 rain);                  /* millionths of an inch */
+u64 reference_tenths(const u64 *record);                    /* curve number of a subarea's patches, in tenths */
+u64 reference_runoff(u64 tenths, u64 rain);                 /* millionths of an inch */
 u64 reference_segment(const u64 *segment);                  /* seconds; five numbers, spare ones not read */
 u64 reference_concentration(const u64 *record);             /* Tc */
 u64 reference_peak(u64 step, u64 concentration);            /* Tp */

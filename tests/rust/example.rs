@@ -57,7 +57,7 @@ struct Subarea {
 }
 
 /// The interface that the structs and functions here are declared for.
-const INTERFACE: u64 = 4;
+const INTERFACE: u64 = 5;
 
 #[link(name = "host", kind = "static")]
 extern "C" {

@@ -92,18 +92,19 @@ static void subareas(struct sink *to, const struct site *s)
         u64 time = reference_concentration(record), peak = reference_peak(s->step, time);
         put(to, "%7zu ", i + 1);
         column(to, 11, record_area(record), 2);
-        put(to, " %13" PRIu64 " %7" PRIu64 " %7" PRIu64 " %8" PRIu64 "\n", reference_curve(record), time, peak,
-            5 * peak / s->step);
+        put(to, " ");
+        column(to, 13, reference_tenths(record), 1);
+        put(to, " %7" PRIu64 " %7" PRIu64 " %8" PRIu64 "\n", time, peak, 5 * peak / s->step);
     }
 }
 
 /* A patch's own curve number is that of a record that has no other. */
-static u64 patch_curve(const u64 *patch)
+static u64 patch_tenths(const u64 *patch)
 {
     u64 alone[BT_WIDTH] = { [BT_PATCH_COUNT] = 1 };
     for (size_t i = 0; i < BT_PATCH_WIDTH; i++)
         alone[BT_PATCHES + i] = patch[i];
-    return reference_curve(alone);
+    return reference_tenths(alone);
 }
 
 static void patches(struct sink *to, const struct site *s)
@@ -115,7 +116,9 @@ static void patches(struct sink *to, const struct site *s)
             const u64 *patch = record + BT_PATCHES + BT_PATCH_WIDTH * j;
             put(to, "%7zu %6" PRIu64 " %5c ", i + 1, patch[0], "ABCD"[patch[1] - 1]);
             column(to, 11, patch[2], 2);
-            put(to, " %13" PRIu64 "\n", patch_curve(patch));
+            put(to, " ");
+            column(to, 13, patch_tenths(patch), 1);
+            put(to, "\n");
         }
     }
 }

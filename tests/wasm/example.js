@@ -9,7 +9,7 @@ const fs = require("fs");
 
 const engine = new WebAssembly.Instance(new WebAssembly.Module(fs.readFileSync(process.argv[2])), {}).exports;
 
-const INTERFACE = 4n; // what this was written for
+const INTERFACE = 5n; // what this was written for
 if (engine.bt_interface() !== INTERFACE) {
     throw new Error(`the engine has interface ${engine.bt_interface()}, not ${INTERFACE}`);
 }

@@ -1,4 +1,4 @@
--- The composite curve number lies between the patches' numbers, the class areas sum to the area, and how large the sums can be. Assumes nothing.
+-- The composite curve number in tenths lies between ten times the patches' numbers, the class areas sum to the area, and how large the sums can be. Assumes nothing.
 use mathlib.Core.Path.{_≡_, sym, _∙_, ap}
 use mathlib.Core.Logic.{⊎-elim}
 use mathlib.Core.List.{List}
@@ -13,8 +13,8 @@ use Rattle.laws.specs.Sum.{sumTo}
 use Rattle.laws.proofs.Tests.{by-test}
 use Rattle.laws.proofs.Num.{below-or-not}
 use Rattle.laws.proofs.Sums.{sum-le, sum-same, sum-add, sum-times, sum-more, sum-most, sum-least}
-use Rattle.curve.specs.CurveNumbers.{classOf, patchesIn, cover, soil, area, number, totalArea, weightedAt, weighted, nearest, composite, areaIn, classArea, classesTo}
-use Rattle.curve.specs.Needs.{PatchesOk, CurveOk}
+use Rattle.curve.specs.CurveNumbers.{classOf, patchesIn, cover, soil, area, number, totalArea, weightedAt, weighted, nearest, meanTenths, compositeTenths, areaIn, classArea, classesTo}
+use Rattle.curve.specs.Needs.{PatchesOk, NumberOk, CurveOk}
 use Rattle.curve.specs.declared.Classes.{Classes}
 use Rattle.curve.proofs.Class.{is-surface, is-district, is-lot, is-rural}
 use Rattle.curve.proofs.Table.{cover-ok}
@@ -52,17 +52,17 @@ module _ (p : List ℕ) (ok : PatchesOk p) where
   unfolding totalArea
   area-most = omega (arith, area-to (patchesIn p) (omega arith), ok .most)
 
-  -- the composite lies between any two numbers that all the patches' numbers lie between, so between the least and the greatest of them
-  pub composite-between : (lo hi : ℕ) → ((i : ℕ) → i < patchesIn p → (lo ≤ number p i) × (number p i ≤ hi)) → (lo ≤ composite p) × (composite p ≤ hi)
-  unfolding composite weighted totalArea
+  -- the composite lies between any two numbers that all the patches' numbers lie between, so between the least and the greatest of them: in tenths, between ten times each
+  pub composite-between : (lo hi : ℕ) → ((i : ℕ) → i < patchesIn p → (lo ≤ number p i) × (number p i ≤ hi)) → (10 * lo ≤ compositeTenths p) × (compositeTenths p ≤ 10 * hi)
+  unfolding compositeTenths meanTenths weighted totalArea
   composite-between lo hi each = (
-    nearest-least lo (weighted p) (totalArea p) area-some
+    nearest-least (10 * lo) (10 * weighted p) (totalArea p) area-some
         (omega (
           arith,
           sum-times lo (area p) (patchesIn p),
           sum-le (λ i. lo * area p i) (weightedAt p) (patchesIn p) (λ i l. mul-le-mul-right (area p i) (each i l .0)),
         )),
-    nearest-most hi (weighted p) (totalArea p) area-some
+    nearest-most (10 * hi) (10 * weighted p) (totalArea p) area-some
         (omega (
           arith,
           sum-times hi (area p) (patchesIn p),
@@ -70,12 +70,22 @@ module _ (p : List ℕ) (ok : PatchesOk p) where
         )),
   )
 
-  -- so it is a curve number
-  pub composite-ok : CurveOk (composite p)
+  -- so it is a curve number in tenths
+  pub composite-ok : CurveOk (compositeTenths p)
   composite-ok =
-      let numbers : (i : ℕ) → i < patchesIn p → CurveOk (number p i) = λ i l. cover-ok (cover p i) (soil p i) (ok .each i l .place) in
+      let numbers : (i : ℕ) → i < patchesIn p → NumberOk (number p i) = λ i l. cover-ok (cover p i) (soil p i) (ok .each i l .place) in
       let r = composite-between 30 98 (λ i l. (numbers i l .least, numbers i l .most)) in
       record { least = r .0; most = r .1 }
+
+  -- where the mean is a whole number, the composite is that
+  pub composite-whole : (C : ℕ) → weighted p ≡ C * totalArea p → compositeTenths p ≡ 10 * C
+  unfolding compositeTenths meanTenths
+  composite-whole C e =
+      omega (
+        arith,
+        nearest-least (10 * C) (10 * weighted p) (totalArea p) area-some (omega (arith, e)),
+        nearest-most (10 * C) (10 * weighted p) (totalArea p) area-some (omega (arith, e)),
+      )
 
 -- a code has one of the four classes, so its area counts once
 once : (k a : ℕ) → 1 ≤ k → k ≤ 22 → pick (eqb (classOf k) 1) a 0 + pick (eqb (classOf k) 2) a 0 + pick (eqb (classOf k) 3) a 0 + pick (eqb (classOf k) 4) a 0 ≡ a

@@ -10,7 +10,7 @@ use Rattle.laws.specs.Within.{within}
 use Rattle.laws.proofs.Tests.{kept}
 use Rattle.laws.proofs.Scans.{scan-all}
 use Rattle.curve.specs.CurveNumbers.{coverTable, coverNumber}
-use Rattle.curve.specs.Needs.{CoverOk, CurveOk}
+use Rattle.curve.specs.Needs.{CoverOk, NumberOk}
 
 -- place i of the table, four to a row
 abbrev good : ℕ → Bool
@@ -21,7 +21,7 @@ unfolding scan coverTable
 all-good = refl
 
 -- each number of the table is a curve number
-pub cover-ok : (cover soil : ℕ) → CoverOk cover soil → CurveOk (coverNumber cover soil)
+pub cover-ok : (cover soil : ℕ) → CoverOk cover soil → NumberOk (coverNumber cover soil)
 unfolding coverNumber
 cover-ok cover soil ok =
     let i = 4 * (cover - 1) + (soil - 1) in

@@ -1,4 +1,4 @@
--- Document 01, 'Curve numbers': the cover table, the classes, and the composite curve number of a subarea's patches.
+-- Document 01, 'Curve numbers', and Q-5: the cover table, the classes, and the composite curve number of a subarea's patches, in tenths.
 use mathlib.Core.Bool.{Bool, _&&_}
 use mathlib.Core.List.{List, [], _∷_}
 use Prim.Native.Nat.{ℕ, _+_, _-_, _*_, _/_}
@@ -87,13 +87,17 @@ weighted p = sumTo (weightedAt p) (patchesIn p)
 unfoldable pub nearest : ℕ → ℕ → ℕ
 nearest a b = (2 * a + b) / (2 * b)
 
--- the composite curve number C: the area-weighted mean, to the nearest whole, halves up
-unfoldable pub composite : List ℕ → ℕ
-composite p = nearest (weighted p) (totalArea p)
+-- (Q-5) a / b in tenths, to the nearest, halves up
+unfoldable pub meanTenths : ℕ → ℕ → ℕ
+meanTenths a b = nearest (10 * a) b
 
--- what a subarea's patches come to: their area and their composite curve number
+-- (Q-5) the composite curve number in tenths: the area-weighted mean, to the nearest tenth, halves up
+unfoldable pub compositeTenths : List ℕ → ℕ
+compositeTenths p = meanTenths (weighted p) (totalArea p)
+
+-- what a subarea's patches come to: their area and their composite curve number in tenths
 abbrev pub groundOf : List ℕ → Ground
-groundOf p = record { area = totalArea p; curve = composite p }
+groundOf p = record { area = totalArea p; tenths = compositeTenths p }
 
 -- the area of patch i if it is of a class, else 0
 abbrev pub areaIn : List ℕ → ℕ → ℕ → ℕ

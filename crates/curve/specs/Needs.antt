@@ -26,12 +26,17 @@ pub record PatchesOk (p : List ℕ) : Type 0 where
   pub most : patchesIn p ≤ mostPatches
   pub each : (i : ℕ) → i < patchesIn p → PatchOk (cover p i) (soil p i) (area p i)
 
--- a curve number that the cover table, or a mean over it, can give
-pub record CurveOk (c : ℕ) : Type 0 where
-  pub least : 30 ≤ c
-  pub most : c ≤ 98
+-- a curve number of the cover table, which is whole
+pub record NumberOk (C : ℕ) : Type 0 where
+  pub least : 30 ≤ C
+  pub most : C ≤ 98
 
--- what a mean is asked at: some area, and sums that leave room to double
+-- a curve number in tenths that a mean over the cover table can give
+pub record CurveOk (c : ℕ) : Type 0 where
+  pub least : 300 ≤ c
+  pub most : c ≤ 980
+
+-- what a mean is asked at: some area, and sums of which twenty times fit
 pub record MeanOk (weighted area : ℕ) : Type 0 where
   pub some : 1 ≤ area
   pub area-most : area ≤ 1000000000000

@@ -1,4 +1,4 @@
-// Curve numbers: the cover table, the classes, and the composite curve number of a subarea's patches.
+// Curve numbers: the cover table, the classes, and the composite curve number of a subarea's patches, in tenths.
 // A list of patches is flat, three numbers a patch: cover code, soil group, area in hundredths of an acre.
 use laws::limits;
 ghost use mathlib.Core.Path.{_≡_};
@@ -6,7 +6,7 @@ ghost use Prim.Native.Nat.{_+_, _*_, _<_};
 ghost use Rattle.laws.specs.Pick.{pick};
 ghost use Rattle.laws.specs.Scan.{scan};
 ghost use lib.Dec.{eqb};
-ghost use Rattle.curve.specs.CurveNumbers.{coverNumber, classOf, patchesIn, cover, soil, area, number, nearest, groundOf, classesTo, classesOf, patchGood, patchesGood};
+ghost use Rattle.curve.specs.CurveNumbers.{coverNumber, classOf, patchesIn, cover, soil, area, number, meanTenths, groundOf, classesTo, classesOf, patchGood, patchesGood};
 ghost use Rattle.curve.specs.Needs.{CoverOk, PatchesOk, MeanOk};
 
 // The numbers of a patch in a list, and the patches that a subarea can have.
@@ -47,10 +47,10 @@ const LOTS: u64 = 3;
 
 const RURAL: u64 = 4;
 
-// What a subarea's patches come to: their area, in hundredths of an acre, and their composite curve number.
+// What a subarea's patches come to: their area, in hundredths of an acre, and their composite curve number, in tenths.
 pub struct Ground {
     pub area: u64,
-    pub curve: u64,
+    pub tenths: u64,
 }
 
 // The area in each class, in hundredths of an acre.
@@ -61,7 +61,7 @@ pub struct Classes {
     pub rural: u64,
 }
 
-// The curve number of a cover code on a soil group.
+// The curve number of a cover code on a soil group, whole.
 pub fn cover_number(cover: u64, soil: u64) -> u64
     requires { ⌜ CoverOk cover soil ⌝ }
     ensures { λ r. ⌜ r ≡ coverNumber cover soil ⌝ }
@@ -84,12 +84,12 @@ fn class_of(cover: u64) -> u64
     }
 }
 
-// The mean weighted / area to the nearest whole, halves up.
-pub fn nearest(weighted: u64, area: u64) -> u64
+// The mean weighted / area in tenths, to the nearest, halves up.
+pub fn mean_tenths(weighted: u64, area: u64) -> u64
     requires { ⌜ MeanOk weighted area ⌝ }
-    ensures { λ r. ⌜ r ≡ nearest weighted area ⌝ }
+    ensures { λ r. ⌜ r ≡ meanTenths weighted area ⌝ }
 {
-    (2 * weighted + area) / (2 * area)
+    (2 * (10 * weighted) + area) / (2 * area)
 }
 
 fn cover_at(patches: &[u64], i: usize) -> u64
@@ -137,7 +137,7 @@ pub fn composite(patches: &[u64]) -> Ground
     }
     Ground {
         area,
-        curve: nearest(weighted, area),
+        tenths: mean_tenths(weighted, area),
     }
 }
 

@@ -70,7 +70,7 @@ fn tables(words: &[u8], files: &[u8], names: &mut [u8; 8192]) -> Tally {
 
 fn main() {
     let words =
-        b"scope,curve,composite,runoff,abstraction,travel,tc,shape,ordinate,timing,convolution,volume,pond,peak,recalled,pond,routing";
+        b"scope,curve,composite in tenths,runoff,abstraction,travel,tc,shape,ordinate,timing,convolution,volume,pond,peak,recalled,pond,routing";
     let files =
         b"scope.csv,curve_numbers.csv,composite_cn.csv,runoff_depth.csv,initial_abstraction.csv,travel_time.csv,tc_totals.csv,duh_shape_neh.csv,uh_ordinates_iowa.csv,uh_timing.csv,convolution_iowa.csv,volumes.csv,pond_iowa.csv,peaks_recalled.csv,recalled.csv,pond_chow_recalled.csv,routing_chow_recalled.csv";
     phrases::say(phrases::HEAD);

@@ -63,16 +63,17 @@ fn covers(number: u64) -> Four {
     }
 }
 
+// In tenths.
 fn composite(patches: &[u64]) -> u64 {
     if curve::patches_good(patches) {
         let ground = curve::composite(patches);
-        ground.curve
+        ground.tenths
     } else {
         NONE
     }
 }
 
-// The mean of curve numbers that no cover code has: their sum by area, and the area.
+// The mean, in tenths, of curve numbers that no cover code has: their sum by area, and the area.
 fn mean(weighted: u64, area: u64) -> u64 {
     if area < 1 {
         return NONE;
@@ -83,29 +84,29 @@ fn mean(weighted: u64, area: u64) -> u64 {
     if weighted > 1000000000000 {
         return NONE;
     }
-    curve::nearest(weighted, area)
+    curve::mean_tenths(weighted, area)
 }
 
-fn depth(curve: u64, rain: u64) -> u64 {
-    if curve < 30 {
+fn depth(tenths: u64, rain: u64) -> u64 {
+    if tenths < 300 {
         return NONE;
     }
-    if curve > 98 {
+    if tenths > 980 {
         return NONE;
     }
     if rain > 30000 {
         return NONE;
     }
-    runoff::depth(curve, rain)
+    runoff::depth(tenths, rain)
 }
 
 // At four rains, which stand behind the curve number.
-fn depths(n: &[u64], curve: u64) -> Four {
+fn depths(n: &[u64], tenths: u64) -> Four {
     Four {
-        a: depth(curve, at(n, 1)),
-        b: depth(curve, at(n, 2)),
-        c: depth(curve, at(n, 3)),
-        d: depth(curve, at(n, 4)),
+        a: depth(tenths, at(n, 1)),
+        b: depth(tenths, at(n, 2)),
+        c: depth(tenths, at(n, 3)),
+        d: depth(tenths, at(n, 4)),
     }
 }
 

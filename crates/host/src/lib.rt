@@ -16,7 +16,7 @@ ghost use Rattle.host.specs.Interface.{interface};
 
 // Raised with each change of a layout or of a signature below, or of the rows that a study leaves; the header's BT_INTERFACE is
 // the same.
-const INTERFACE: u64 = 4;
+const INTERFACE: u64 = 5;
 
 // The number of the interface that this engine was built with.
 #[no_mangle]

@@ -16,18 +16,18 @@ use Rattle.hydrograph.specs.Needs.{product, plus, TimingOk, RainOk, Belo
 use Rattle.hydrograph.proofs.Weights.{weight-most, in-time}
 use Rattle.hydrograph.proofs.Released.{runoff-most}
 
-module _ (C Tp D : ℕ) (rain ws qs : List ℕ) (m : ℕ) (weighed : Filled (weightAt Tp D) (weights Tp D) ws) (ran : Filled (runoffAt C rain) (m + 1) qs) where
+module _ (c Tp D : ℕ) (rain ws qs : List ℕ) (m : ℕ) (weighed : Filled (weightAt Tp D) (weights Tp D) ws) (ran : Filled (runoffAt c rain) (m + 1) qs) where
   -- the products of the two lists through row k are the terms that are not 0
-  pub products : (k : ℕ) → k ≤ m → sumTo (product ws qs k) (min (weights Tp D) k) ≡ sumTo (λ i. term C Tp D rain k (i + 1)) (weights Tp D)
+  pub products : (k : ℕ) → k ≤ m → sumTo (product ws qs k) (min (weights Tp D) k) ≡ sumTo (λ i. term c Tp D rain k (i + 1)) (weights Tp D)
   unfolding runoffAt
   products k l =
-      sum-same (product ws qs k) (λ i. term C Tp D rain k (i + 1)) (min (weights Tp D) k) (λ i h. same i (omega arith) (omega arith))
-      ∙ sym (sum-zeros (λ i. term C Tp D rain k (i + 1)) (min (weights Tp D) k) (weights Tp D) (omega arith) (λ i a b. early i (omega arith)))
+      sum-same (product ws qs k) (λ i. term c Tp D rain k (i + 1)) (min (weights Tp D) k) (λ i h. same i (omega arith) (omega arith))
+      ∙ sym (sum-zeros (λ i. term c Tp D rain k (i + 1)) (min (weights Tp D) k) (weights Tp D) (omega arith) (λ i a b. early i (omega arith)))
     where
-      same : (i : ℕ) → i < weights Tp D → i < k → product ws qs k i ≡ term C Tp D rain k (i + 1)
+      same : (i : ℕ) → i < weights Tp D → i < k → product ws qs k i ≡ term c Tp D rain k (i + 1)
       same i a b = let e : k + 1 - (i + 1) ≡ k - i = omega arith in rw (e, weighed .each i a, ran .each (k - i) (omega arith))
 
-      early : (i : ℕ) → k ≤ i → term C Tp D rain k (i + 1) ≡ 0
+      early : (i : ℕ) → k ≤ i → term c Tp D rain k (i + 1) ≡ 0
       early i a = let e : k + 1 - (i + 1) ≡ 0 = omega arith in rw e (omega arith)
 
   -- the lists' numbers are small
@@ -35,26 +35,26 @@ module _ (C Tp D : ℕ) (rain ws qs : List ℕ) (m : ℕ) (weighed : Filled (wei
   weights-below timing n l =
       record { each = λ i h. rw (weighed .each i (omega arith)) (weight-most D Tp timing (i + 1) (in-time D Tp timing (i + 1) (omega arith))) }
 
-  pub depths-below : CurveOk C → RainOk rain → (k : ℕ) → k ≤ m → Below qs (k + 1) 30000000
-  depths-below curve ok k l = record { each = λ i h. rw (ran .each i (omega arith)) (runoff-most C rain curve ok i) }
+  pub depths-below : CurveOk c → RainOk rain → (k : ℕ) → k ≤ m → Below qs (k + 1) 30000000
+  depths-below curve ok k l = record { each = λ i h. rw (ran .each i (omega arith)) (runoff-most c rain curve ok i) }
 
 -- before row i (from 0): the rows written so far and the rows still due are all the rows
-pub record Adding (C A Tp D : ℕ) (rain first ws qs : List ℕ) (total count : ℕ) (rows : List ℕ) (before i : ℕ) : Type 0 where
+pub record Adding (c A Tp D : ℕ) (rain first ws qs : List ℕ) (total count : ℕ) (rows : List ℕ) (before i : ℕ) : Type 0 where
   pub at : i ≤ length first
   pub long : length rows ≡ length first
   pub weighed : Filled (weightAt Tp D) (weights Tp D) ws
-  pub ran : Filled (runoffAt C rain) (length first + 1) qs
+  pub ran : Filled (runoffAt c rain) (length first + 1) qs
   pub all : total ≡ totalWeight Tp D
   pub many : count ≡ weights Tp D
-  pub so-far : before ≡ volume C A Tp D rain i
-  pub written : take i rows ++ plus (part C A Tp D rain) (i + 1) (drop i first) ≡ plus (part C A Tp D rain) 1 first
+  pub so-far : before ≡ volume c A Tp D rain i
+  pub written : take i rows ++ plus (part c A Tp D rain) (i + 1) (drop i first) ≡ plus (part c A Tp D rain) 1 first
   pub due : drop i rows ≡ drop i first
 
-module _ (C A Tp D : ℕ) (rain first ws qs : List ℕ) (total count : ℕ) where
+module _ (c A Tp D : ℕ) (rain first ws qs : List ℕ) (total count : ℕ) where
   abbrev parts : ℕ → ℕ
-  parts = part C A Tp D rain
+  parts = part c A Tp D rain
 
-  module _ (rows : List ℕ) (before i : ℕ) (so : Adding C A Tp D rain first ws qs total count rows before i) where
+  module _ (rows : List ℕ) (before i : ℕ) (so : Adding c A Tp D rain first ws qs total count rows before i) where
     -- a row that is due is as it was
     pub row-first : getD rows i 0 ≡ getD first i 0
     row-first = sym (at-front rows) ∙ ap (λ (l : List ℕ). getD l 0 0) (so .due) ∙ at-front first
@@ -68,8 +68,8 @@ module _ (C A Tp D : ℕ) (rain first ws qs : List ℕ) (total count : ℕ) wher
     adding-end l = fill-end rows i (plus parts 1 first) (omega (arith, so .long)) (rw (drop-none first i l) at (so .written))
 
     -- one row more
-    pub adding-turn : (through : ℕ) → i < length first → through ≡ volume C A Tp D rain (i + 1)
-        → Adding C A Tp D rain first ws qs total count (set rows i (getD rows i 0 + (through - before))) through (i + 1)
+    pub adding-turn : (through : ℕ) → i < length first → through ≡ volume c A Tp D rain (i + 1)
+        → Adding c A Tp D rain first ws qs total count (set rows i (getD rows i 0 + (through - before))) through (i + 1)
     unfolding plus part
     adding-turn through l e =
         record {

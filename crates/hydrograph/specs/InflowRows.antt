@@ -70,18 +70,18 @@ sumFrom1 f n = sumTo (λ i. f (i + 1)) n
 unfoldable pub totalWeight : ℕ → ℕ → ℕ
 totalWeight Tp D = sumTo (weightAt Tp D) (weights Tp D)
 
--- Q at t, the runoff of rain entry t: 0 for t <= 0, the last from n on (length rain - 1 is exact: 3 leaves 2 entries at least, `run-ok` of checks)
+-- c is the curve number in tenths (Q-5). Q at t, the runoff of rain entry t: 0 for t <= 0, the last from n on (length rain - 1 is exact: 3 leaves 2 entries at least, `run-ok` of checks)
 unfoldable pub runoffAt : ℕ → List ℕ → ℕ → ℕ
-runoffAt C rain zero = 0
-runoffAt C rain (suc t) = depth C (getD rain (min (suc t) (length rain - 1)) 0)
+runoffAt c rain zero = 0
+runoffAt c rain (suc t) = depth c (getD rain (min (suc t) (length rain - 1)) 0)
 
 -- weight j times Q at k + 1 - j (stops at 0 on purpose: Q at t is 0 for t <= 0)
 abbrev pub term : ℕ → ℕ → ℕ → List ℕ → ℕ → ℕ → ℕ
-term C Tp D rain k j = weight Tp D j * runoffAt C rain (k + 1 - j)
+term c Tp D rain k j = weight Tp D j * runoffAt c rain (k + 1 - j)
 
 -- the depth released through row k: the sum over j, divided by W, down
 unfoldable pub depthReleased : ℕ → ℕ → ℕ → List ℕ → ℕ → ℕ
-depthReleased C Tp D rain k = sumFrom1 (term C Tp D rain k) (weights Tp D) / totalWeight Tp D
+depthReleased c Tp D rain k = sumFrom1 (term c Tp D rain k) (weights Tp D) / totalWeight Tp D
 
 -- the volume of a depth on an area: 363 times both, divided by 10,000, down
 unfoldable pub volumeOf : ℕ → ℕ → ℕ
@@ -89,11 +89,11 @@ volumeOf A d = 363 * A * d / 10000
 
 -- the volume released through row k
 abbrev pub volume : ℕ → ℕ → ℕ → ℕ → List ℕ → ℕ → ℕ
-volume C A Tp D rain k = volumeOf A (depthReleased C Tp D rain k)
+volume c A Tp D rain k = volumeOf A (depthReleased c Tp D rain k)
 
 -- a subarea's part of row k: that less the same at k - 1 (exact: `volume-rises`)
 unfoldable pub part : ℕ → ℕ → ℕ → ℕ → List ℕ → ℕ → ℕ
-part C A Tp D rain k = volume C A Tp D rain k - volume C A Tp D rain (k - 1)
+part c A Tp D rain k = volume c A Tp D rain k - volume c A Tp D rain (k - 1)
 
 -- refusal 9 of one subarea, as a test that passes: Tc is not above 36,000
 unfoldable pub concentrationGood : ℕ → Bool

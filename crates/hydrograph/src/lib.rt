@@ -145,27 +145,27 @@ fn fill_weights(peak: u64, step: u64, list: &mut [u32; limits::MOST_WEIGHTS]) ->
     total
 }
 
-// Q at t, the runoff of rain entry t, from Q at t - 1, which stays once the rain has ended.
-fn next_depth(curve: u64, rain: &[u64], t: usize, last: u64) -> u64
-    requires { ⌜ CurveOk curve × (RainOk (now rain) × (last ≡ runoffAt curve (now rain) (t - 1))) ⌝ }
-    ensures { λ r. ⌜ r ≡ runoffAt curve (now (rain .entry)) t ⌝ }
+// Q at t, the runoff of rain entry t on a curve number in tenths, from Q at t - 1, which stays once the rain has ended.
+fn next_depth(tenths: u64, rain: &[u64], t: usize, last: u64) -> u64
+    requires { ⌜ CurveOk tenths × (RainOk (now rain) × (last ≡ runoffAt tenths (now rain) (t - 1))) ⌝ }
+    ensures { λ r. ⌜ r ≡ runoffAt tenths (now (rain .entry)) t ⌝ }
 {
     if t < rain.len() {
-        runoff::depth(curve, rain[t])
+        runoff::depth(tenths, rain[t])
     } else {
         last
     }
 }
 
 // Puts Q at 0 to Q at the last row into a list.
-fn fill_depths(curve: u64, rain: &[u64], rows: usize, list: &mut [u32; ENTRIES])
-    requires { ⌜ CurveOk curve × (RainOk (now rain) × ((rows ≤ mostRows) × (length (now list) ≡ mostRows + 1))) ⌝ }
-    ensures { λ _. ⌜ Filled (runoffAt curve (now (rain .entry))) (rows + 1) (now (list .exit)) ⌝ }
+fn fill_depths(tenths: u64, rain: &[u64], rows: usize, list: &mut [u32; ENTRIES])
+    requires { ⌜ CurveOk tenths × (RainOk (now rain) × ((rows ≤ mostRows) × (length (now list) ≡ mostRows + 1))) ⌝ }
+    ensures { λ _. ⌜ Filled (runoffAt tenths (now (rain .entry))) (rows + 1) (now (list .exit)) ⌝ }
 {
     let mut last = 0;
     let mut t = 0;
     while t <= rows {
-        last = next_depth(curve, rain, t, last);
+        last = next_depth(tenths, rain, t, last);
         list[t] = last as u32;
         t += 1;
     }
@@ -204,15 +204,16 @@ fn least(a: usize, b: usize) -> usize
     if a < b { a } else { b }
 }
 
-// Adds a subarea's part to each row: its weights and the depths are worked out once, then one sum of products a row.
-pub fn add_parts(curve: u64, area: u64, peak: u64, step: u64, rain: &[u64], rows: &mut [u64])
-    requires { ⌜ CurveOk curve × ((area ≤ mostArea) × (TimingOk step peak × (RainOk (now rain) × RoomOk (now rows)))) ⌝ }
-    ensures { λ _. ⌜ now (rows .exit) ≡ plus (part curve area peak step (now (rain .entry))) 1 (now (rows .entry)) ⌝ }
+// Adds a subarea's part, by its curve number in tenths, to each row: its weights and the depths are worked out once, then one
+// sum of products a row.
+pub fn add_parts(tenths: u64, area: u64, peak: u64, step: u64, rain: &[u64], rows: &mut [u64])
+    requires { ⌜ CurveOk tenths × ((area ≤ mostArea) × (TimingOk step peak × (RainOk (now rain) × RoomOk (now rows)))) ⌝ }
+    ensures { λ _. ⌜ now (rows .exit) ≡ plus (part tenths area peak step (now (rain .entry))) 1 (now (rows .entry)) ⌝ }
 {
     let mut weights = [0u32; limits::MOST_WEIGHTS];
     let mut depths = [0u32; ENTRIES];
     let total = fill_weights(peak, step, &mut weights);
-    fill_depths(curve, rain, rows.len(), &mut depths);
+    fill_depths(tenths, rain, rows.len(), &mut depths);
     let count = (5 * peak / step) as usize;
     let mut before = 0;
     let mut i = 0;

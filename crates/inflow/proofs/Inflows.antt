@@ -14,7 +14,7 @@ use Rattle.hydrograph.proofs.Released.{volume-most}
 use Rattle.rows.specs.Needs.{InflowOk}
 use Rattle.laws.specs.Limits.{mostRows, mostInflow}
 use Rattle.subarea.specs.declared.Setup.{Setup}
-use Rattle.subarea.specs.Records.{recordsIn, recordAt, areaOf, curveOf, peakOf, patches}
+use Rattle.subarea.specs.Records.{recordsIn, recordAt, areaOf, curveTenths, peakOf, patches}
 use Rattle.inflow.specs.Inflow.{partOf, inflowAt, rowsFrom, inflowRows}
 use Rattle.checks.specs.Needs.{RecordOk, ListOk}
 use Rattle.subarea.proofs.Subareas.{patches-fit}
@@ -60,7 +60,7 @@ plus-rows f g k (suc n) = ap (λ (l : List ℕ). (g k + f k) ∷ l) (plus-rows f
 pub part-most : (g : Setup) (rain r : List ℕ) (k : ℕ) → RainOk rain → RecordOk g r → partOf g rain r k ≤ 1089000 * areaOf r
 unfolding part
 part-most g rain r k raining ok =
-    omega (arith, volume-most (curveOf r) rain (composite-ok (patches r) (patches-fit r (ok .patched))) raining (g .step) (peakOf g r) (ok .timed) (areaOf r) k)
+    omega (arith, volume-most (curveTenths r) rain (composite-ok (patches r) (patches-fit r (ok .patched))) raining (g .step) (peakOf g r) (ok .timed) (areaOf r) k)
 
 module _ (g : Setup) (rain s : List ℕ) where
   -- the rows with the parts of the first i subareas

@@ -6,13 +6,13 @@ use Rattle.hydrograph.specs.InflowRows.{part}
 use Rattle.refusals.specs.declared.Refusal.{Refusal}
 use Rattle.refusals.specs.Refusals.{firstRefusal, after}
 use Rattle.subarea.specs.declared.Setup.{Setup}
-use Rattle.subarea.specs.Records.{recordsIn, recordAt, areaOf, curveOf, peakOf}
+use Rattle.subarea.specs.Records.{recordsIn, recordAt, areaOf, curveTenths, peakOf}
 use Rattle.checks.specs.Site.{Site, Rows, asked}
 use Rattle.checks.specs.Order.{inflowLines}
 
 -- subarea r's part of row k
 abbrev pub partOf : Setup → List ℕ → List ℕ → ℕ → ℕ
-partOf g rain r k = part (curveOf r) (areaOf r) (peakOf g r) (g .step) rain k
+partOf g rain r k = part (curveTenths r) (areaOf r) (peakOf g r) (g .step) rain k
 
 -- a row's inflow volume is the sum over subareas
 abbrev pub inflowAt : Setup → List ℕ → List ℕ → ℕ → ℕ

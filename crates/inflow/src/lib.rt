@@ -18,7 +18,7 @@ pub fn add_record(setup: Setup, rain: &[u64], own: &[u64], rows: &mut [u64])
 {
     let ground = subarea::ground(own);
     let peak = subarea::peak(setup, own);
-    hydrograph::add_parts(ground.curve, ground.area, peak, setup.step, rain, rows);
+    hydrograph::add_parts(ground.tenths, ground.area, peak, setup.step, rain, rows);
 }
 
 // Turns a list of zeros into the inflow rows.

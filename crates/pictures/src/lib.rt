@@ -1,6 +1,6 @@
 // Prints texts whose pictures stand for numbers. A picture is a column of #, as wide as the whole units, and behind it the
-// decimals (.00, .000 or .0000) or the minutes and seconds (:00:00). A number that is wider than its column is printed as
-// wide as it is.
+// decimals (.0, .00, .000 or .0000) or the minutes and seconds (:00:00). A number that is wider than its column is printed
+// as wide as it is.
 mod numbers;
 mod text;
 
@@ -52,11 +52,7 @@ fn picture_end(s: &[u8], from: usize) -> usize
     ensures { λ r. ⌜ Within from r (now (s .entry)) ⌝ }
 {
     let e = behind_end(s, from);
-    if e - from < numbers::HUNDREDTHS {
-        from
-    } else {
-        e
-    }
+    if e - from < numbers::TENTHS { from } else { e }
 }
 
 // Value k, 0 where there is none.

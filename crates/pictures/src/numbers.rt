@@ -1,7 +1,9 @@
 // Numbers in columns, as exact decimals of whole units.
 
 // What stands behind a column, by its length.
-pub(crate) const HUNDREDTHS: usize = 3;
+pub(crate) const TENTHS: usize = 2;
+
+const HUNDREDTHS: usize = 3;
 
 const THOUSANDTHS: usize = 4;
 
@@ -41,6 +43,12 @@ fn two(to: i32, mark: u8, n: u64) {
     bytes(to, &rest);
 }
 
+fn tenths(to: i32, n: u64, column: usize) {
+    right(to, n / 10, column);
+    let rest = [b'.', digit(n)];
+    bytes(to, &rest);
+}
+
 fn hundredths(to: i32, n: u64, column: usize) {
     right(to, n / 100, column);
     two(to, b'.', n);
@@ -65,6 +73,7 @@ fn clock(to: i32, seconds: u64, column: usize) {
 
 pub(crate) fn number(to: i32, n: u64, column: usize, behind: usize) {
     match behind {
+        TENTHS => tenths(to, n, column),
         HUNDREDTHS => hundredths(to, n, column),
         THOUSANDTHS => thousandths(to, n, column),
         TEN_THOUSANDTHS => ten_thousandths(to, n, column),

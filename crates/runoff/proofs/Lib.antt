@@ -1,2 +1,3 @@
 pub mod Rising
+pub mod Wholes
 pub mod Answers

@@ -1,5 +1,5 @@
--- Runoff never falls as the rain rises, and is never more than the rain. Assumes nothing.
-use mathlib.Core.Path.{_≡_}
+-- Runoff never falls as the rain rises, nor as the curve number does, and is never more than the rain. Assumes nothing.
+use mathlib.Core.Path.{_≡_, ap, subst}
 use mathlib.Core.Logic.{⊎-elim}
 use Prim.Native.Nat.{ℕ, _+_, _-_, _*_, _/_, _≤_, _<_}
 use native.Mathlib.Nat.{mul-le-mul, mul-le-mul-left, div-le-of-le-mul}
@@ -11,14 +11,14 @@ use Rattle.laws.specs.Limits.{mostRain}
 use Rattle.runoff.specs.RunoffDepth.{N, M, depth}
 
 -- with N above 0 the depth is the quotient
-pub depth-some : (C p : ℕ) → 200000 < C * p + 2000 * C → depth C p ≡ 1000 * (N C p * N C p) / (C * M C p)
+pub depth-some : (c p : ℕ) → 2000000 < c * p + 2000 * c → depth c p ≡ 1000 * (N c p * N c p) / (c * M c p)
 unfolding depth
-depth-some C p l = rw (lt-leb (C * p + 2000 * C) 200000 l)
+depth-some c p l = rw (lt-leb (c * p + 2000 * c) 2000000 l)
 
 -- with N at most 0 there is none
-pub depth-none : (C p : ℕ) → C * p + 2000 * C ≤ 200000 → depth C p ≡ 0
+pub depth-none : (c p : ℕ) → c * p + 2000 * c ≤ 2000000 → depth c p ≡ 0
 unfolding depth
-depth-none C p l = rw (le-leb (C * p + 2000 * C) 200000 l)
+depth-none c p l = rw (le-leb (c * p + 2000 * c) 2000000 l)
 
 -- n^2 m' is at most n'^2 m, where both numbers grow by d and n is at most m
 grown : (n m d : ℕ) → n ≤ m → (n * n) * (m + d) ≤ ((n + d) * (n + d)) * m
@@ -28,49 +28,81 @@ grown n m d l = omega (arith, mul-le-mul-left (n * d) l)
 scaled : (c n m d : ℕ) → n ≤ m → (1000 * (n * n)) * (c * (m + d)) ≤ (1000 * ((n + d) * (n + d))) * (c * m)
 scaled c n m d l = omega (arith, mul-le-mul-left c (grown n m d l))
 
-module _ (C : ℕ) (ok : CurveOk C) where
-  -- N is at most M, and at most C p
-  N-M : (p : ℕ) → N C p ≤ M C p
+module _ (c : ℕ) (ok : CurveOk c) where
+  -- N is at most M, and at most c p
+  N-M : (p : ℕ) → N c p ≤ M c p
   N-M p = omega (arith, ok .most)
 
-  N-rain : (p : ℕ) → N C p ≤ C * p
+  N-rain : (p : ℕ) → N c p ≤ c * p
   N-rain p = omega (arith, ok .most)
 
   -- the divisor is not 0
-  pub M-some : (p : ℕ) → 0 < C * M C p
+  pub M-some : (p : ℕ) → 0 < c * M c p
   M-some p = mul-le-mul {n₁ = 1} {m₁ = 1} (omega (arith, ok .least)) (omega (arith, ok .most))
 
   -- it never falls as the rain rises
-  pub depth-rises : (p q : ℕ) → p ≤ q → depth C p ≤ depth C q
-  depth-rises p q l = ⊎-elim wet dry (below-or-not 200000 (C * p + 2000 * C))
+  pub depth-rises : (p q : ℕ) → p ≤ q → depth c p ≤ depth c q
+  depth-rises p q l = ⊎-elim wet dry (below-or-not 2000000 (c * p + 2000 * c))
     where
-      more : C * p ≤ C * q
-      more = mul-le-mul-left C l
+      more : c * p ≤ c * q
+      more = mul-le-mul-left c l
 
       -- the quotients, by their products across
-      across : 200000 < C * p + 2000 * C → (1000 * (N C p * N C p)) * (C * M C q) ≤ (1000 * (N C q * N C q)) * (C * M C p)
+      across : 2000000 < c * p + 2000 * c → (1000 * (N c p * N c p)) * (c * M c q) ≤ (1000 * (N c q * N c q)) * (c * M c p)
       across h =
-          let d = C * q - C * p in
-          let n : N C q ≡ N C p + d = omega (arith, more) in
-          let m : M C q ≡ M C p + d = omega (arith, more, ok .most) in
-          rw (n, m) (scaled C (N C p) (M C p) d (N-M p))
+          let d = c * q - c * p in
+          let n : N c q ≡ N c p + d = omega (arith, more) in
+          let m : M c q ≡ M c p + d = omega (arith, more, ok .most) in
+          rw (n, m) (scaled c (N c p) (M c p) d (N-M p))
 
-      wet : 200000 < C * p + 2000 * C → depth C p ≤ depth C q
+      wet : 2000000 < c * p + 2000 * c → depth c p ≤ depth c q
       wet h =
-          rw (depth-some C p h, depth-some C q (omega (arith, more)))
-          (div-cross (1000 * (N C p * N C p)) (C * M C p) (1000 * (N C q * N C q)) (C * M C q) (M-some p) (M-some q) (across h))
+          rw (depth-some c p h, depth-some c q (omega (arith, more)))
+          (div-cross (1000 * (N c p * N c p)) (c * M c p) (1000 * (N c q * N c q)) (c * M c q) (M-some p) (M-some q) (across h))
 
-      dry : C * p + 2000 * C ≤ 200000 → depth C p ≤ depth C q
-      dry h = rw (depth-none C p h) (omega arith)
+      dry : c * p + 2000 * c ≤ 2000000 → depth c p ≤ depth c q
+      dry h = rw (depth-none c p h) (omega arith)
 
   -- it is at most 1,000 times the rain, the rain itself in its unit
-  pub depth-most : (p : ℕ) → depth C p ≤ 1000 * p
+  pub depth-most : (p : ℕ) → depth c p ≤ 1000 * p
   depth-most p =
       ⊎-elim
-      (λ h. rw (depth-some C p h) (div-le-of-le-mul (C * M C p) (omega (arith, mul-le-mul (N-rain p) (N-M p)))))
-      (λ h. rw (depth-none C p h) (omega arith))
-      (below-or-not 200000 (C * p + 2000 * C))
+      (λ h. rw (depth-some c p h) (div-le-of-le-mul (c * M c p) (omega (arith, mul-le-mul (N-rain p) (N-M p)))))
+      (λ h. rw (depth-none c p h) (omega arith))
+      (below-or-not 2000000 (c * p + 2000 * c))
 
   -- so it is at most 30,000,000 within the limits
-  pub depth-bound : (p : ℕ) → p ≤ mostRain → depth C p ≤ 30000000
+  pub depth-bound : (p : ℕ) → p ≤ mostRain → depth c p ≤ 30000000
   depth-bound p l = omega (arith, depth-most p)
+
+-- N / c and N / M, and so their product, never fall where c grows by e: N grows by e (p + 2000), and M with 8000 e is e p more
+steeper : (c e p n m m' : ℕ) → n ≤ m → n ≤ c * p + 2000 * c → m' + 8000 * e ≡ m + e * p
+    → (1000 * (n * n)) * ((c + e) * m') ≤ (1000 * ((n + e * p + 2000 * e) * (n + e * p + 2000 * e))) * (c * m)
+steeper c e p n m m' below wetted grows =
+    let by-c : n * (c + e) ≤ (n + e * p + 2000 * e) * c = omega (arith, mul-le-mul-left e wetted) in
+    let by-m : n * m' ≤ (n + e * p + 2000 * e) * m = omega (arith, ap (λ (z : ℕ). n * z) grows, mul-le-mul-left (e * p) below) in
+    omega (arith, mul-le-mul by-c by-m)
+
+-- with the rain fixed, a curve number that is higher by e never gives less
+raised : (c e p : ℕ) → CurveOk c → CurveOk (c + e) → depth c p ≤ depth (c + e) p
+raised c e p ok high = ⊎-elim wet dry (below-or-not 2000000 (c * p + 2000 * c))
+  where
+    across : 2000000 < c * p + 2000 * c → (1000 * (N c p * N c p)) * ((c + e) * M (c + e) p) ≤ (1000 * (N (c + e) p * N (c + e) p)) * (c * M c p)
+    across h =
+        let n : N (c + e) p ≡ N c p + e * p + 2000 * e = omega arith in
+        rw n (steeper c e p (N c p) (M c p) (M (c + e) p) (N-M c ok p) (omega arith) (omega (arith, ok .most, high .most)))
+
+    wet : 2000000 < c * p + 2000 * c → depth c p ≤ depth (c + e) p
+    wet h =
+        rw (depth-some c p h, depth-some (c + e) p (omega arith))
+        (div-cross (1000 * (N c p * N c p)) (c * M c p) (1000 * (N (c + e) p * N (c + e) p)) ((c + e) * M (c + e) p) (M-some c ok p) (M-some (c + e) high p) (across h))
+
+    dry : c * p + 2000 * c ≤ 2000000 → depth c p ≤ depth (c + e) p
+    dry h = rw (depth-none c p h) (omega arith)
+
+-- with the rain fixed, a higher curve number never gives less
+pub depth-higher : (c d p : ℕ) → CurveOk c → CurveOk d → c ≤ d → depth c p ≤ depth d p
+depth-higher c d p ok high l =
+    let e : c + (d - c) ≡ d = omega arith in
+    subst (λ (z : ℕ). depth c p ≤ depth z p) e
+    (raised c (d - c) p ok (record { least = omega (arith, high .least); most = omega (arith, high .most) }))

@@ -80,7 +80,7 @@ fn subarea_line(setup: Setup, number: u64, own: &[u64])
     let weights = weights(peak, step);
     texts::sheet(
         texts::SUBAREA,
-        &[number, ground.area, ground.curve, time, peak, weights],
+        &[number, ground.area, ground.tenths, time, peak, weights],
     );
 }
 

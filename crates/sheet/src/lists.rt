@@ -15,8 +15,8 @@ fn patch_line(of: u64, own: &[u64]) {
     let cover = own[0];
     let soil = own[1];
     let area = own[2];
-    let curve = curve::cover_number(cover, soil);
-    texts::sheet(texts::PATCHES + soil, &[of, cover, area, curve]);
+    let tenths = 10 * curve::cover_number(cover, soil);
+    texts::sheet(texts::PATCHES + soil, &[of, cover, area, tenths]);
 }
 
 // Each number has a column of its own, which its kind's text knows. A place that no segment was laid in does not pass; a sheet

@@ -9,7 +9,7 @@ use Rattle.laws.specs.Sum.{sumTo}
 use Rattle.laws.specs.Within.{within}
 use Rattle.laws.proofs.Scans.{scan-same}
 use Rattle.laws.proofs.Sums.{sum-same}
-use Rattle.curve.specs.CurveNumbers.{mostPatches, totalArea, composite, patchesIn, classArea, patchesGood}
+use Rattle.curve.specs.CurveNumbers.{mostPatches, totalArea, compositeTenths, patchesIn, classArea, patchesGood}
 use Rattle.curve.specs.declared.Classes.{Classes}
 use Rattle.travel.specs.TravelTime.{mostSegments, timeToPeak, sheetLimit, segmentsGood}
 use Rattle.travel.proofs.Spare.{segments-same, concentration-same}
@@ -20,7 +20,7 @@ use Rattle.rows.specs.Figures.{figuresOf}
 use Rattle.refusals.specs.declared.Refusal.{Refusal}
 use Rattle.refusals.specs.Refusals.{unless, firstOf, firstRefusal, after}
 use Rattle.subarea.specs.declared.Setup.{Setup}
-use Rattle.subarea.specs.Records.{halfOf, width, recordsIn, recordAt, patchCount, patches, segmentCount, segments, areaOf, curveOf, timeOf, peakOf, patchesPass, segmentsPass, SameRecord, SameRead}
+use Rattle.subarea.specs.Records.{halfOf, width, recordsIn, recordAt, patchCount, patches, segmentCount, segments, areaOf, curveTenths, timeOf, peakOf, patchesPass, segmentsPass, SameRecord, SameRead}
 use Rattle.checks.specs.Site.{Site, Rows, asked, withSubareas}
 use Rattle.checks.specs.Order.{ListTest, each, total, overList, listTests, listLines, recordsGood, foreLines, runLines, pondLines}
 use Rattle.inflow.specs.Inflow.{partOf, inflowAt, inflowRows, inflowOf}
@@ -50,8 +50,8 @@ module _ (r q : List ℕ) (same : SameRecord r q) where
 
   pub part-read : (g : Setup) (rain : List ℕ) (k : ℕ) → partOf g rain r k ≡ partOf g rain q k
   part-read g rain k =
-      ap (λ (p : List ℕ). part (composite p) (totalArea p) (peakOf g r) (g .step) rain k) (same .patched)
-      ∙ ap (λ (t : ℕ). part (curveOf q) (areaOf q) (timeToPeak (g .step) t) (g .step) rain k) time-read
+      ap (λ (p : List ℕ). part (compositeTenths p) (totalArea p) (peakOf g r) (g .step) rain k) (same .patched)
+      ∙ ap (λ (t : ℕ). part (curveTenths q) (areaOf q) (timeToPeak (g .step) t) (g .step) rain k) time-read
 
 -- a test that depends only on that
 abbrev Reads : ListTest → Type 0

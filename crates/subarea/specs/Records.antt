@@ -5,7 +5,7 @@ use mathlib.Core.List.{List}
 use Prim.Native.Nat.{ℕ, _+_, _*_, _/_, _<_}
 use lib.ListN.{length, getD, take, drop}
 use Rattle.laws.specs.Within.{within}
-use Rattle.curve.specs.CurveNumbers.{patchWidth, mostPatches, totalArea, composite, patchesGood}
+use Rattle.curve.specs.CurveNumbers.{patchWidth, mostPatches, totalArea, compositeTenths, patchesGood}
 use Rattle.travel.specs.TravelTime.{segmentWidth, mostSegments, concentration, timeToPeak, sheetLimit, segmentsGood, SameSegments}
 use Rattle.subarea.specs.declared.Setup.{Setup}
 
@@ -47,12 +47,12 @@ segmentCount r = getD r segmentCountAt 0
 abbrev pub segments : List ℕ → List ℕ
 segments r = take (segmentWidth * segmentCount r) (drop segmentsFrom r)
 
--- a record's area, curve number, Tc and Tp
+-- a record's area, curve number in tenths, Tc and Tp
 abbrev pub areaOf : List ℕ → ℕ
 areaOf r = totalArea (patches r)
 
-abbrev pub curveOf : List ℕ → ℕ
-curveOf r = composite (patches r)
+abbrev pub curveTenths : List ℕ → ℕ
+curveTenths r = compositeTenths (patches r)
 
 abbrev pub timeOf : List ℕ → ℕ
 timeOf r = concentration (segments r)

@@ -51,7 +51,7 @@ pub fn segments_pass(rule: u64, own: &[u64]) -> bool
     travel::segments_good(travel::sheet_limit(rule), &own[a..e])
 }
 
-// Its area and its curve number.
+// Its area and its curve number in tenths.
 pub fn ground(own: &[u64]) -> curve::Ground
     requires { ⌜ (length (now own) ≡ width) × (patchesPass (now own) ≡ true) ⌝ }
     ensures { λ r. ⌜ r ≡ groundOf (patches (now (own .entry))) ⌝ }

@@ -1,4 +1,4 @@
--- The witness holds, by computation; so there are rows that stand after a study, after an edit and after a rewriting, and the balance and the chain are of them; and a row that does not stand. Assumes nothing.
+-- The witness holds, by computation; so there are rows that stand after a study, after an edit and after a rewriting, and the balance and the chain are of them; and two rows that do not stand. Assumes nothing.
 use mathlib.Core.Path.{_≡_, refl, ap, subst, _∙_}
 use mathlib.Core.Bool.{true≢false}
 use Prim.Native.Nat.{ℕ, zero, suc, _+_, _<_}
@@ -6,8 +6,8 @@ use native.Mathlib.Omega.{arith}
 use Rattle.laws.specs.Scan.{scan}
 use Rattle.laws.specs.Sum.{sumTo}
 use Rattle.laws.specs.Flat.{flatGood}
-use Rattle.curve.specs.CurveNumbers.{coverTable, coverNumber, classOf, totalArea, weighted, nearest, composite, patchWithin, patchesGood}
-use Rattle.runoff.specs.RunoffDepth.{depth}
+use Rattle.curve.specs.CurveNumbers.{coverTable, coverNumber, classOf, totalArea, weighted, nearest, meanTenths, compositeTenths, patchWithin, patchesGood}
+use Rattle.runoff.specs.RunoffDepth.{depth, wholeDepth}
 use Rattle.travel.specs.TravelTime.{segmentTime, concentration, timeToPeak, ruleGood, sheetLimit, segmentWithin, placeWithin, segmentsGood, SameSegment}
 use Rattle.hydrograph.specs.InflowRows.{shape, time, ratio, lineAt, onLine, weight, totalWeight, runoffAt, depthReleased, volumeOf, part, concentrationGood, peakGood, weightsGood}
 use Rattle.pond.specs.PondRows.{sumAt, lower, between, dischargeAt, stageAt, arrived, settled, countGood, rowWithin, orderGood}
@@ -23,10 +23,10 @@ use Rattle.alter.specs.Altering.{swapped, firstChanged, placeGood}
 use Rattle.edit.specs.Edit.{inflowFits, overFrom, editRefusal, editedOf, editAnswer, editRows}
 use Rattle.edit.specs.Standing.{Standing, studied, edited, rewritten, Studied}
 use Rattle.edit.proofs.EditIsStudy.{chain, standing-balance}
-use Rattle.worked.specs.Witness.{parkingBefore, parking, siteOf, lent, small, large, earlier, smallFigures, enlarged, Witness}
+use Rattle.worked.specs.Witness.{parkingBefore, parking, siteOn, siteOf, lent, small, large, earlier, smallFigures, enlarged, lawn, byWholes, Witness}
 
 pub witness : Witness
-unfolding scan sumTo flatGood coverTable coverNumber classOf totalArea weighted nearest composite patchWithin patchesGood depth segmentTime concentration timeToPeak ruleGood sheetLimit segmentWithin placeWithin segmentsGood shape time ratio lineAt onLine weight totalWeight runoffAt depthReleased volumeOf part concentrationGood peakGood weightsGood sumAt lower between dischargeAt stageAt arrived settled countGood rowWithin orderGood states passed overRow stateBefore maxTo peakRow keptTo figuresOf standsWithin firstAfter patchesPass segmentsPass lengthsGood stepGood entriesGood lastGood recordsGood rowsFrom overCheck studyRefusal studyAnswer studyRows swapped firstChanged placeGood inflowFits overFrom editRefusal editedOf editAnswer editRows
+unfolding scan sumTo flatGood coverTable coverNumber classOf totalArea weighted nearest meanTenths compositeTenths patchWithin patchesGood depth wholeDepth segmentTime concentration timeToPeak ruleGood sheetLimit segmentWithin placeWithin segmentsGood shape time ratio lineAt onLine weight totalWeight runoffAt depthReleased volumeOf part concentrationGood peakGood weightsGood sumAt lower between dischargeAt stageAt arrived settled countGood rowWithin orderGood states passed overRow stateBefore maxTo peakRow keptTo figuresOf standsWithin firstAfter patchesPass segmentsPass lengthsGood stepGood entriesGood lastGood recordsGood rowsFrom overCheck studyRefusal studyAnswer studyRows swapped firstChanged placeGood inflowFits overFrom editRefusal editedOf editAnswer editRows
 witness =
     record {
       study-answers = refl;
@@ -40,6 +40,9 @@ witness =
       again-leaves = refl;
       earlier-answers = refl;
       earlier-leaves = refl;
+      lawn-leaves = refl;
+      lawn-again = refl;
+      lawn-by-wholes = refl;
     }
 
 -- rows that stand: after the study, and after the edit
@@ -78,3 +81,7 @@ balanced = standing-balance stands-rewritten 0 (omega arith)
 -- a row of the rule before Q-3 does not stand: a study leaves 2566 where it has 3550
 pub earlier-stands-not : Standing (siteOf 1) earlier → ⊥
 earlier-stands-not stood = omega (arith, ap (λ (l : Rows). at (l .inflow) 0) (chain stood .rows ∙ witness .again-leaves))
+
+-- nor does a row over the mean rounded to a whole, the rule before Q-5: a study leaves 1122 where it has 1161
+pub wholes-stand-not : Standing (siteOn lawn) byWholes → ⊥
+wholes-stand-not stood = omega (arith, ap (λ (l : Rows). at (l .inflow) 0) (chain stood .rows ∙ witness .lawn-again))

@@ -1,8 +1,8 @@
--- The lines marked (*) under 'Figures to check by' in document 01: what a definition gives beside the figure.
+-- The lines marked (*) under 'Figures to check by' in document 01, curve numbers in tenths (Q-5): what a definition gives beside the figure.
 use mathlib.Core.List.{List, [], _∷_}
 use Prim.Native.Nat.{ℕ, _+_}
 use Rattle.laws.specs.Sum.{sumTo}
-use Rattle.curve.specs.CurveNumbers.{composite}
+use Rattle.curve.specs.CurveNumbers.{compositeTenths}
 use Rattle.runoff.specs.RunoffDepth.{depth}
 use Rattle.travel.specs.TravelTime.{segmentTime}
 use Rattle.hydrograph.specs.InflowRows.{weight, volumeOf}
@@ -37,12 +37,12 @@ storageRows = storages 30 twoRows empty inflows
 
 abbrev pub lines : List Line
 lines =
-    (depth 80 3000 is 1250000)
-    ∷ (depth 80 500 is 0)
-    ∷ (depth 80 520 is 158)
-    ∷ (depth 98 3000 is 2768268)
-    ∷ (depth 40 8000 is 1250000)
-    ∷ (composite equalAreas is 68)
+    (depth 800 3000 is 1250000)
+    ∷ (depth 800 500 is 0)
+    ∷ (depth 800 520 is 158)
+    ∷ (depth 980 3000 is 2768268)
+    ∷ (depth 400 8000 is 1250000)
+    ∷ (compositeTenths equalAreas is 675)
     ∷ (segmentTime 1 1000 100 0 0 is 619)
     ∷ (segmentTime 2 1000 100 0 0 is 491)
     ∷ (weight 216 60 1 is 170000)

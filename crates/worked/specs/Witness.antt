@@ -1,11 +1,13 @@
--- A witness that the definitions are of something: one small study that is done, one edit of its rows that is done, and two that are refused; and one edit of a row that no study leaves.
+-- A witness that the definitions are of something: one small study that is done, one edit of its rows that is done, and two that are refused; one edit of a row that no study leaves; and one study of a mean that is no whole number.
 use mathlib.Core.Path.{_≡_}
 use mathlib.Core.List.{List, [], _∷_, _++_}
-use Prim.Native.Nat.{ℕ, _-_, _*_}
+use Prim.Native.Nat.{ℕ, _-_, _*_, _/_}
 use lib.IntN.{pos}
 use lib.ListN.{replicate}
-use Rattle.curve.specs.CurveNumbers.{patchWidth, mostPatches}
+use Rattle.curve.specs.CurveNumbers.{patchWidth, mostPatches, totalArea, weighted, nearest}
+use Rattle.runoff.specs.RunoffDepth.{wholeDepth}
 use Rattle.travel.specs.TravelTime.{segmentWidth, mostSegments}
+use Rattle.hydrograph.specs.InflowRows.{weight, totalWeight, volumeOf}
 use Rattle.refusals.specs.Refusals.{refuse}
 use Rattle.checks.specs.Site.{Site, Rows}
 use Rattle.study.specs.declared.Figures.{Figures}
@@ -24,15 +26,18 @@ parkingBefore unread area =
 abbrev pub parking : ℕ → List ℕ
 parking area = parkingBefore 0 area
 
--- D 60, sheet rule 1 (there is no sheet flow, and one is needed all the same), 3 in of rain in one step, that subarea, and the pond of the worked lines
-abbrev pub siteOf : ℕ → Site
-siteOf area =
+-- D 60, sheet rule 1 (there is no sheet flow, and one is needed all the same), 3 in of rain in one step, a list of subareas, and the pond of the worked lines
+abbrev pub siteOn : List ℕ → Site
+siteOn subareas =
     record {
       setup = record { step = 60; first = 1; rule = 1 };
       rain = 0 ∷ 3000 ∷ [];
-      subareas = parking area;
+      subareas = subareas;
       pond = twoRows;
     }
+
+abbrev pub siteOf : ℕ → Site
+siteOf area = siteOn (parking area)
 
 -- one row: inflow, outflow, storage
 abbrev pub oneRow : ℕ → ℕ → ℕ → Rows
@@ -76,6 +81,20 @@ mixedTold =
       released = pos 630;
     }
 
+-- two patches of area 1 each, on cover code 3 and soil groups B (61) and C (74), with the same segment
+abbrev pub lawns : List ℕ
+lawns = 3 ∷ 2 ∷ 1 ∷ 3 ∷ 3 ∷ 1 ∷ []
+
+abbrev pub lawn : List ℕ
+lawn = (2 ∷ (lawns ++ replicate (patchWidth * mostPatches - 6) 0)) ++ (1 ∷ 3 ∷ 360 ∷ 100 ∷ replicate (segmentWidth * mostSegments - 3) 0)
+
+-- its row over 67.5; and over 68, by the rule before Q-5
+abbrev pub byTenths : Rows
+byTenths = oneRow 1122 9 852
+
+abbrev pub byWholes : Rows
+byWholes = oneRow 1161 9 891
+
 -- a study of area 1 is done; an edit of its rows to area 2 is done; to area 0 it is refused with 6, to area 5 with 14, and the rows stay
 pub record Witness : Type 0 where
   pub study-answers : studyAnswer (siteOf 1) lent ≡ Study.Done smallFigures
@@ -90,3 +109,7 @@ pub record Witness : Type 0 where
   pub again-leaves : studyRows (siteOf 1) earlier ≡ small
   pub earlier-answers : editAnswer (siteOf 1) earlier 1 (parking 2) ≡ Done mixedTold
   pub earlier-leaves : editRows (siteOf 1) earlier 1 (parking 2) ≡ mixed
+  -- over tenths a study leaves another row than document 01's runoff of the mean rounded to a whole gives
+  pub lawn-leaves : studyRows (siteOn lawn) lent ≡ byTenths
+  pub lawn-again : studyRows (siteOn lawn) byWholes ≡ byTenths
+  pub lawn-by-wholes : volumeOf 2 (weight 246 60 1 * wholeDepth (nearest (weighted lawns) (totalArea lawns)) 3000 / totalWeight 246 60) ≡ 1161

@@ -10,8 +10,8 @@
 
 #include "bridletenon.h"
 
-#if BT_INTERFACE != 4
-#error "this host was written for interface 4"
+#if BT_INTERFACE != 5
+#error "this host was written for interface 5"
 #endif
 
 enum {

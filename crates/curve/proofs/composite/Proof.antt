@@ -6,7 +6,7 @@ use borrow.Author.Needs.{needs}
 use Rattle.laws.specs.Sum.{sumTo}
 use Rattle.laws.proofs.Num.{mul-fits}
 use Rattle.laws.proofs.Sums.{sum-more}
-use Rattle.curve.specs.CurveNumbers.{patchesIn, cover, soil, area, weightedAt, totalArea, weighted, composite}
+use Rattle.curve.specs.CurveNumbers.{patchesIn, cover, soil, area, weightedAt, totalArea, weighted, compositeTenths}
 use Rattle.curve.proofs.Table.{cover-ok}
 use Rattle.curve.proofs.Mean.{area-to, weighted-to, area-some}
 use Rattle.curve.proofs.composite.Statement.{statement}
@@ -67,19 +67,19 @@ ended c =
     let all : c .before .loop .i ≡ patchesIn p = omega arith in
     (c .before .loop .inv .1 .0 ∙ ap (sumTo (area p)) all, c .before .loop .inv .1 .1 ∙ ap (sumTo (weightedAt p)) all)
 
-nearest-requires : tie.Need-nearest-requires Inv-loop μ-loop
-nearest-requires c κs =
+mean-tenths-requires : tie.Need-mean-tenths-requires Inv-loop μ-loop
+mean-tenths-requires c κs =
     let s = c .before .before .before in
     let p = s .args .patches .now in
     let i = c .before .loop .i in
     omega (arith, ended c .0, area-some p (s .pre), area-to p (s .pre) i (omega arith), weighted-to p (s .pre) i (omega arith), s .pre .most)
 
 returns : tie.Need-returns Inv-loop μ-loop
-unfolding composite
-returns c = rw (c .nearest .ensures, ended (c .before) .0, ended (c .before) .1)
+unfolding compositeTenths
+returns c = rw (c .mean-tenths .ensures, ended (c .before) .0, ended (c .before) .1)
 
 pub composite-spec : {M : Type 1} → statement M
 composite-spec =
     tie.close
     (tie.spec Inv-loop μ-loop loop-holds (λ c κs. search needs) (λ c κs. search needs) mul-weighted add-weighted add-area
-    (λ c. search needs) (λ c. search needs) again nearest-requires returns)
+    (λ c. search needs) (λ c. search needs) again mean-tenths-requires returns)

@@ -14,10 +14,10 @@ use Rattle.hydrograph.proofs.add_parts.Statement.{statement}
 use Rattle.hydrograph.proofs.add_parts.Tie as tie
 
 abbrev Inv-loop : tie.InvT-loop
-Inv-loop C A Tp D rain first ws qs total count before₀ i₀ rows before i = Adding C A Tp D rain first ws qs total count rows before i
+Inv-loop tenths A Tp D rain first ws qs total count before₀ i₀ rows before i = Adding tenths A Tp D rain first ws qs total count rows before i
 
 abbrev μ-loop : tie.MeasureT-loop
-μ-loop C A Tp D rain first ws qs total count before₀ i₀ rows before i = length first - i
+μ-loop tenths A Tp D rain first ws qs total count before₀ i₀ rows before i = length first - i
 
 -- the function's entry, from the head of its loop
 abbrev start : tie.At-loop Inv-loop μ-loop → tie.Start Inv-loop μ-loop
@@ -31,7 +31,7 @@ raining a = start a .pre .1 .1 .1 .0
 
 -- the volume through a row, of its subarea
 abbrev through : (a : tie.At-loop Inv-loop μ-loop) → ℕ → ℕ
-through a k = volume (start a .args .curve) (start a .args .area) (start a .args .peak) (start a .args .step) (start a .args .rain .now) k
+through a k = volume (start a .args .tenths) (start a .args .area) (start a .args .peak) (start a .args .step) (start a .args .rain .now) k
 
 fill-weights-requires : tie.Need-fill-weights-requires Inv-loop μ-loop
 fill-weights-requires c κs = (c .before .before .before .pre .1 .1 .0, refl)
@@ -51,7 +51,7 @@ loop-holds c =
       ran = c .fill-depths .ensures;
       all = c .before .before .fill-weights .ensures .0;
       many = refl;
-      so-far = sym (volume-none (s .args .curve) (s .args .rain .now) (s .pre .0) (s .pre .1 .1 .1 .0) (s .args .step) (s .args .peak) (s .pre .1 .1 .0) (s .args .area));
+      so-far = sym (volume-none (s .args .tenths) (s .args .rain .now) (s .pre .0) (s .pre .1 .1 .1 .0) (s .args .step) (s .args .peak) (s .pre .1 .1 .0) (s .args .area));
       written = refl;
       due = refl;
     }
@@ -61,7 +61,7 @@ dot-requires c κs =
     let a = c .before .before .before .before in
     let s = start a in
     let r = a .loop .inv in
-    let C = s .args .curve in
+    let tenths = s .args .tenths in
     let Tp = s .args .peak in
     let D = s .args .step in
     let rain = s .args .rain .now in
@@ -74,8 +74,8 @@ dot-requires c κs =
         (
           omega arith,
           (
-            weights-below C Tp D rain _ _ m (r .weighed) (r .ran) (timing a) (c .least .result) few,
-            depths-below C Tp D rain _ _ m (r .weighed) (r .ran) (s .pre .0) (raining a) (a .loop .i + 1) (omega arith),
+            weights-below tenths Tp D rain _ _ m (r .weighed) (r .ran) (timing a) (c .least .result) few,
+            depths-below tenths Tp D rain _ _ m (r .weighed) (r .ran) (s .pre .0) (raining a) (a .loop .i + 1) (omega arith),
           ),
         ),
       ),
@@ -84,22 +84,22 @@ dot-requires c κs =
 -- the depth released through the row
 depth-is : (c : tie.After-dot Inv-loop μ-loop)
     → c .dot .result / c .before .before .before .before .before .before .before .before .fill-weights .result
-    ≡ depthReleased (start (c .before .before .before .before .before) .args .curve) (start (c .before .before .before .before .before) .args .peak) (start (c .before .before .before .before .before) .args .step) (start (c .before .before .before .before .before) .args .rain .now) (c .before .before .before .before .before .loop .i + 1)
+    ≡ depthReleased (start (c .before .before .before .before .before) .args .tenths) (start (c .before .before .before .before .before) .args .peak) (start (c .before .before .before .before .before) .args .step) (start (c .before .before .before .before .before) .args .rain .now) (c .before .before .before .before .before .loop .i + 1)
 unfolding depthReleased
 depth-is c =
     let a = c .before .before .before .before .before in
     let s = start a in
     let r = a .loop .inv in
-    let C = s .args .curve in
+    let tenths = s .args .tenths in
     let Tp = s .args .peak in
     let D = s .args .step in
     let rain = s .args .rain .now in
     let k = a .loop .i + 1 in
     let ws = c .before .before .before .before .before .before .before .before .fill-weights .last .1 .1 .0 in
     let qs = c .before .before .before .before .before .before .fill-depths .last .1 .1 .1 .0 in
-    let sum : c .dot .result ≡ sumTo (λ i. term C Tp D rain k (i + 1)) (weights Tp D)
-    = c .dot .ensures ∙ ap (sumTo (product ws qs k)) (c .before .least .ensures) ∙ products C Tp D rain ws qs (length (s .args .rows .now)) (r .weighed) (r .ran) k (omega arith) in
-    ap (λ (z : ℕ). z / c .before .before .before .before .before .before .before .before .fill-weights .result) sum ∙ ap (λ (z : ℕ). sumTo (λ i. term C Tp D rain k (i + 1)) (weights Tp D) / z) (r .all)
+    let sum : c .dot .result ≡ sumTo (λ i. term tenths Tp D rain k (i + 1)) (weights Tp D)
+    = c .dot .ensures ∙ ap (sumTo (product ws qs k)) (c .before .least .ensures) ∙ products tenths Tp D rain ws qs (length (s .args .rows .now)) (r .weighed) (r .ran) k (omega arith) in
+    ap (λ (z : ℕ). z / c .before .before .before .before .before .before .before .before .fill-weights .result) sum ∙ ap (λ (z : ℕ). sumTo (λ i. term tenths Tp D rain k (i + 1)) (weights Tp D) / z) (r .all)
 
 div-volume : tie.Need-div-volume Inv-loop μ-loop
 div-volume c =
@@ -110,7 +110,7 @@ volume-requires : tie.Need-volume-requires Inv-loop μ-loop
 volume-requires c κs =
     let a = c .before .before .before .before .before in
     let s = start a in
-    (s .pre .1 .0, rw (depth-is c) (released-most (s .args .curve) (s .args .rain .now) (s .pre .0) (raining a) (s .args .step) (s .args .peak) (timing a) (a .loop .i + 1)))
+    (s .pre .1 .0, rw (depth-is c) (released-most (s .args .tenths) (s .args .rain .now) (s .pre .0) (raining a) (s .args .step) (s .args .peak) (timing a) (a .loop .i + 1)))
 
 -- the volume through the row
 through-is : (c : tie.After-volume Inv-loop μ-loop) → c .volume .result ≡ through (c .before .before .before .before .before .before) (c .before .before .before .before .before .before .loop .i + 1)
@@ -120,7 +120,7 @@ sub-rows : tie.Need-sub-rows Inv-loop μ-loop
 sub-rows c =
     let a = c .before .before .before .before .before .before in
     let s = start a in
-    omega (arith, through-is c, a .loop .inv .so-far, volume-rises (s .args .curve) (s .args .rain .now) (s .pre .0) (raining a) (s .args .step) (s .args .peak) (timing a) (s .args .area) (a .loop .i) (a .loop .i + 1) (omega arith))
+    omega (arith, through-is c, a .loop .inv .so-far, volume-rises (s .args .tenths) (s .args .rain .now) (s .pre .0) (raining a) (s .args .step) (s .args .peak) (timing a) (s .args .area) (a .loop .i) (a .loop .i + 1) (omega arith))
 
 mul-rows : tie.Need-mul-rows Inv-loop μ-loop
 mul-rows c =
@@ -141,7 +141,7 @@ add-rows c =
       row-first _ _ _ _ _ _ _ _ _ _ (a .loop .rows) (a .loop .before) (a .loop .i) r,
       s .pre .1 .1 .1 .1 .room (a .loop .i) (omega arith),
       s .pre .1 .0,
-      volume-most (s .args .curve) (s .args .rain .now) (s .pre .0) (raining a) (s .args .step) (s .args .peak) (timing a) (s .args .area) (a .loop .i + 1),
+      volume-most (s .args .tenths) (s .args .rain .now) (s .pre .0) (raining a) (s .args .step) (s .args .peak) (timing a) (s .args .area) (a .loop .i + 1),
     )
 
 slice-write-rows : tie.Need-slice-write-rows Inv-loop μ-loop

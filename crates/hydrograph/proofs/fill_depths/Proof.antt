@@ -11,11 +11,11 @@ use Rattle.hydrograph.proofs.fill_depths.Statement.{statement}
 use Rattle.hydrograph.proofs.fill_depths.Tie as tie
 
 abbrev Inv-loop : tie.InvT-loop
-Inv-loop curve rain rows list₀ last₀ t₀ list last t =
-    (t ≤ rows + 1) × ((length list ≡ 2001) × ((last ≡ runoffAt curve rain (t - 1)) × Filled (runoffAt curve rain) t list))
+Inv-loop tenths rain rows list₀ last₀ t₀ list last t =
+    (t ≤ rows + 1) × ((length list ≡ 2001) × ((last ≡ runoffAt tenths rain (t - 1)) × Filled (runoffAt tenths rain) t list))
 
 abbrev μ-loop : tie.MeasureT-loop
-μ-loop curve rain rows list₀ last₀ t₀ list last t = rows + 1 - t
+μ-loop tenths rain rows list₀ last₀ t₀ list last t = rows + 1 - t
 
 loop-holds : tie.Need-loop-holds Inv-loop μ-loop
 unfolding runoffAt
@@ -29,13 +29,13 @@ next-depth-requires c κs =
 cast-list : tie.Need-cast-list Inv-loop μ-loop
 cast-list c =
     let s = c .before .before .before .before in
-    omega (arith, c .next-depth .ensures, runoff-most (s .args .curve) (s .args .rain .now) (s .pre .0) (s .pre .1 .0) (c .before .before .loop .t))
+    omega (arith, c .next-depth .ensures, runoff-most (s .args .tenths) (s .args .rain .now) (s .pre .0) (s .pre .1 .0) (c .before .before .loop .t))
 
 again : tie.Need-loop-again Inv-loop μ-loop
 again c =
     let s = c .before .before .before .before in
     let l = c .before .before .loop in
-    let f = runoffAt (s .args .curve) (s .args .rain .now) in
+    let f = runoffAt (s .args .tenths) (s .args .rain .now) in
     let back : l .t + 1 - 1 ≡ l .t = omega arith in
     (omega arith, (simp length-set (l .inv .1 .0), (rw back (c .next-depth .ensures), filled-more f (l .t) (l .list) (c .next-depth .result) (omega arith) (l .inv .1 .1 .1) (c .next-depth .ensures))))
 

@@ -14,12 +14,12 @@ depth-requires c κs =
 own : tie.Need-returns
 own c =
     let s = c .before .before .before .before in
-    c .depth .ensures ∙ runoff-own (s .args .curve) (s .args .rain .now) (s .pre .0) (s .pre .1 .0) (s .args .t) (omega arith)
+    c .depth .ensures ∙ runoff-own (s .args .tenths) (s .args .rain .now) (s .pre .0) (s .pre .1 .0) (s .args .t) (omega arith)
 
 stays : tie.Need-returns-2
 stays c =
     let s = c .before .before in
-    s .pre .1 .1 ∙ runoff-stays (s .args .curve) (s .args .rain .now) (s .pre .0) (s .pre .1 .0) (s .args .t) (omega arith)
+    s .pre .1 .1 ∙ runoff-stays (s .args .tenths) (s .args .rain .now) (s .pre .0) (s .pre .1 .0) (s .args .t) (omega arith)
 
 pub next-depth-spec : {M : Type 1} → statement M
 next-depth-spec = tie.close (tie.spec (λ c. search needs) (λ c. search needs) depth-requires own stays)

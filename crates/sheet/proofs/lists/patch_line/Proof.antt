@@ -1,9 +1,10 @@
--- `sheet::lists::patch_line` asks for the curve number of a patch within its limits.
+-- `sheet::lists::patch_line` asks for the curve number of a patch within its limits, which fits in tenths.
 use mathlib.Core.Path.{sym, _∙_}
 use borrow.Author.Tests.{not-false}
 use native.Mathlib.Omega.{arith}
 use Rattle.curve.specs.Needs.{PatchesOk}
 use Rattle.curve.proofs.Limits.{patches-ok}
+use Rattle.curve.proofs.Table.{cover-ok}
 use borrow.Author.Needs.{needs}
 use Rattle.sheet.proofs.lists.patch_line.Statement.{statement}
 use Rattle.sheet.proofs.lists.patch_line.Tie as tie
@@ -24,11 +25,16 @@ read-area c = let ok = passed (c .before .before .before) in omega (arith, ok .t
 cover-number-requires : tie.Need-cover-number-requires
 cover-number-requires c κs = let ok = passed (c .before .before .before) in ok .each 0 (ok .least) .place
 
+mul-tenths : tie.Need-mul-tenths
+mul-tenths c =
+    let ok = passed (c .before .before .before .before) in
+    omega (arith, c .cover-number .ensures, cover-ok _ _ (ok .each 0 (ok .least) .place) .most)
+
 add-sheet : tie.Need-add-sheet
 add-sheet c = let ok = passed (c .before .before .before .before) in omega (arith, ok .each 0 (ok .least) .place .soil-most)
 
 pub patch-line-spec : {M : Type 1} → statement M
 patch-line-spec =
     tie.close
-    (tie.spec (λ c κs. search needs) (λ c. search needs) read-cover read-soil read-area cover-number-requires add-sheet
+    (tie.spec (λ c κs. search needs) (λ c. search needs) read-cover read-soil read-area cover-number-requires mul-tenths add-sheet
     (λ c. search needs) (λ c κs. search needs) (λ c. search needs))
