@@ -49,7 +49,8 @@ static void means(void)
     figure("tenths of 30 and 98 in the greatest areas", tenths_of(19, 1, 200000, 4, 1, 200000), 640);
 }
 
-/* N is 0 at 62.5 and 1.2 in. At 67.5 it is above 0 from 0.963 in on, and a millionth of an inch runs off from 0.966. */
+/* N is 0 at 62.5 and 1.2 in. At 67.5 it is above 0 from 0.963 in on, and a millionth of an inch runs off from 0.966; at
+   97.5 that much and more runs off the first rain at which N is above 0. */
 static void runoff_of_tenths(void)
 {
     figure("C 67.5, p 3000", reference_runoff(675, 3000), 605605);
@@ -62,6 +63,8 @@ static void runoff_of_tenths(void)
     figure("C 62.5, p 1200", reference_runoff(625, 1200), 0);
     figure("C 62.5, p 1202", reference_runoff(625, 1202), 0);
     figure("C 62.5, p 1203", reference_runoff(625, 1203), 1);
+    figure("C 97.5, p 51", reference_runoff(975, 51), 0);
+    figure("C 97.5, p 52", reference_runoff(975, 52), 2);
     figure("C 30.1, p 30000", reference_runoff(301, 30000), 13234375);
     figure("C 97.9, p 30000", reference_runoff(979, 30000), 29744119);
 }

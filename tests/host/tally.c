@@ -14,6 +14,8 @@ static struct {
     u64 records[3];               /* studies of whole records: none, 1 to 16, more */
     u64 early[2];                 /* of more: refused before 5, with 5 */
     u64 segments[BT_SEGMENT_CHANNEL + 1]; /* of done studies, by kind */
+    u64 tenths[2];                /* curve numbers of done studies: whole ones, others */
+    u64 moved[3];                 /* done edits: the curve number kept, moved within a whole number, by more */
     u64 rule[BT_RULE_WINTR55 + 1];        /* done studies, by sheet rule */
     u64 edit_rule[BT_RULE_WINTR55 + 1];   /* done edits */
     u64 too_long[3];              /* 7 by rule 2 alone: of studies, of edits for the list, for the altered list */
@@ -53,8 +55,11 @@ static bool for_rule(const struct site *s, u64 place)
 static void count_done_study(const struct site *s)
 {
     tally.rule[s->rule]++;
-    for (size_t i = 0; i < subarea_count(s); i++)
-        count_segments(s->subareas.at + BT_WIDTH * i);
+    for (size_t i = 0; i < subarea_count(s); i++) {
+        const u64 *record = s->subareas.at + BT_WIDTH * i;
+        count_segments(record);
+        tally.tenths[reference_tenths(record) % 10 != 0]++;
+    }
 }
 
 void count_study(const struct site *s, const struct result *due)
@@ -94,11 +99,18 @@ static bool has_sheet(const u64 *record)
     return record[BT_SEGMENTS] == BT_SEGMENT_SHEET;
 }
 
+/* Within a whole number: the two are one when they are rounded to it. */
+static void count_moved(u64 was, u64 is)
+{
+    tally.moved[was == is ? 0 : (was + 5) / 10 == (is + 5) / 10 ? 1 : 2]++;
+}
+
 static void count_done(const struct edit *e, const struct result *due)
 {
-    bool was = has_sheet(e->site.subareas.at + BT_WIDTH * (e->place - 1)), is = has_sheet(e->fresh);
+    const u64 *old = e->site.subareas.at + BT_WIDTH * (e->place - 1);
     tally.done[due->answer[BT_CHANGED] < 2 ? due->answer[BT_CHANGED] : 2]++;
-    tally.sheet[was + 2 * is]++;
+    tally.sheet[has_sheet(old) + 2 * has_sheet(e->fresh)]++;
+    count_moved(reference_tenths(old), reference_tenths(e->fresh));
     tally.edit_rule[e->site.rule]++;
 }
 
@@ -197,6 +209,7 @@ static void print_edits(void)
 {
     print_counts("edits done, none changed, from row 1, from a later row", tally.done, 3);
     print_counts("edits done, with no sheet segment, one taken away, one brought, one kept", tally.sheet, 4);
+    print_counts("edits done, the curve number kept, moved within a whole number, by more", tally.moved, 3);
     print_counts("edits refused for the altered list alone, 6 to 11", tally.fresh + BT_REFUSED_PATCHES, 6);
     print_counts("14 in the tail", tally.row[BT_REFUSED_FULL] + 1, 1);
     print_counts("16 before the first changed row, from it on, where none is", tally.row[BT_REFUSED_INFLOW], 3);
@@ -209,6 +222,7 @@ bool print_tally(void)
     print_ends();
     print_counts("14 of studies at the first row, between, the last", tally.full, 3);
     print_counts("segments of done studies, kinds 1 to 5", tally.segments + BT_SEGMENT_UNPAVED, BT_SEGMENT_CHANNEL);
+    print_counts("curve numbers of done studies, whole ones, others", tally.tenths, 2);
     print_counts("studies done by sheet rule 1, by 2", tally.rule + BT_RULE_TR55, 2);
     print_counts("edits done by sheet rule 1, by 2", tally.edit_rule + BT_RULE_TR55, 2);
     print_counts("7 by sheet rule 2 alone, of studies, of edits for the list, for the altered list", tally.too_long, 3);
