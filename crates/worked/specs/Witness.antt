@@ -81,12 +81,12 @@ mixedTold =
       released = pos 630;
     }
 
--- two patches of area 1 each, on cover code 3 and soil groups B (61) and C (74), with the same segment
-abbrev pub lawns : List ℕ
-lawns = 3 ∷ 2 ∷ 1 ∷ 3 ∷ 3 ∷ 1 ∷ []
+-- two patches of area 1 each, on cover code 3 and soil groups B (61) and C (74), and a subarea of them with the same segment
+abbrev pub lawnPatches : List ℕ
+lawnPatches = 3 ∷ 2 ∷ 1 ∷ 3 ∷ 3 ∷ 1 ∷ []
 
 abbrev pub lawn : List ℕ
-lawn = (2 ∷ (lawns ++ replicate (patchWidth * mostPatches - 6) 0)) ++ (1 ∷ 3 ∷ 360 ∷ 100 ∷ replicate (segmentWidth * mostSegments - 3) 0)
+lawn = (2 ∷ (lawnPatches ++ replicate (patchWidth * mostPatches - 6) 0)) ++ (1 ∷ 3 ∷ 360 ∷ 100 ∷ replicate (segmentWidth * mostSegments - 3) 0)
 
 -- its row over 67.5; and over 68, by the rule before Q-5
 abbrev pub byTenths : Rows
@@ -112,4 +112,4 @@ pub record Witness : Type 0 where
   -- over tenths a study leaves another row than document 01's runoff of the mean rounded to a whole gives
   pub lawn-leaves : studyRows (siteOn lawn) lent ≡ byTenths
   pub lawn-again : studyRows (siteOn lawn) byWholes ≡ byTenths
-  pub lawn-by-wholes : volumeOf 2 (weight 246 60 1 * wholeDepth (nearest (weighted lawns) (totalArea lawns)) 3000 / totalWeight 246 60) ≡ 1161
+  pub lawn-by-wholes : volumeOf 2 (weight 246 60 1 * wholeDepth (nearest (weighted lawnPatches) (totalArea lawnPatches)) 3000 / totalWeight 246 60) ≡ 1161
