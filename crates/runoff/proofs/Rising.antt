@@ -40,34 +40,40 @@ module _ (c : ℕ) (ok : CurveOk c) where
   pub M-some : (p : ℕ) → 0 < c * M c p
   M-some p = mul-le-mul {n₁ = 1} {m₁ = 1} (omega (arith, ok .least)) (omega (arith, ok .most))
 
+-- a depth is at most another, where N of the other is above 0 once its own is and the products across say so: else it is 0
+compared : (c p d q : ℕ) → CurveOk c → CurveOk d → (2000000 < c * p + 2000 * c → 2000000 < d * q + 2000 * d)
+    → (2000000 < c * p + 2000 * c → (1000 * (N c p * N c p)) * (d * M d q) ≤ (1000 * (N d q * N d q)) * (c * M c p))
+    → depth c p ≤ depth d q
+compared c p d q ok other wetted across = ⊎-elim wet dry (below-or-not 2000000 (c * p + 2000 * c))
+  where
+    wet : 2000000 < c * p + 2000 * c → depth c p ≤ depth d q
+    wet h =
+        rw (depth-some c p h, depth-some d q (wetted h))
+        (div-cross (1000 * (N c p * N c p)) (c * M c p) (1000 * (N d q * N d q)) (d * M d q) (M-some c ok p) (M-some d other q) (across h))
+
+    dry : c * p + 2000 * c ≤ 2000000 → depth c p ≤ depth d q
+    dry h = rw (depth-none c p h) (omega arith)
+
+module _ (c : ℕ) (ok : CurveOk c) where
   -- it never falls as the rain rises
   pub depth-rises : (p q : ℕ) → p ≤ q → depth c p ≤ depth c q
-  depth-rises p q l = ⊎-elim wet dry (below-or-not 2000000 (c * p + 2000 * c))
+  depth-rises p q l = compared c p c q ok ok (λ h. omega (arith, more)) across
     where
       more : c * p ≤ c * q
       more = mul-le-mul-left c l
 
-      -- the quotients, by their products across
       across : 2000000 < c * p + 2000 * c → (1000 * (N c p * N c p)) * (c * M c q) ≤ (1000 * (N c q * N c q)) * (c * M c p)
       across h =
           let d = c * q - c * p in
           let n : N c q ≡ N c p + d = omega (arith, more) in
           let m : M c q ≡ M c p + d = omega (arith, more, ok .most) in
-          rw (n, m) (scaled c (N c p) (M c p) d (N-M p))
-
-      wet : 2000000 < c * p + 2000 * c → depth c p ≤ depth c q
-      wet h =
-          rw (depth-some c p h, depth-some c q (omega (arith, more)))
-          (div-cross (1000 * (N c p * N c p)) (c * M c p) (1000 * (N c q * N c q)) (c * M c q) (M-some p) (M-some q) (across h))
-
-      dry : c * p + 2000 * c ≤ 2000000 → depth c p ≤ depth c q
-      dry h = rw (depth-none c p h) (omega arith)
+          rw (n, m) (scaled c (N c p) (M c p) d (N-M c ok p))
 
   -- it is at most 1,000 times the rain, the rain itself in its unit
   pub depth-most : (p : ℕ) → depth c p ≤ 1000 * p
   depth-most p =
       ⊎-elim
-      (λ h. rw (depth-some c p h) (div-le-of-le-mul (c * M c p) (omega (arith, mul-le-mul (N-rain p) (N-M p)))))
+      (λ h. rw (depth-some c p h) (div-le-of-le-mul (c * M c p) (omega (arith, mul-le-mul (N-rain c ok p) (N-M c ok p)))))
       (λ h. rw (depth-none c p h) (omega arith))
       (below-or-not 2000000 (c * p + 2000 * c))
 
@@ -85,20 +91,12 @@ steeper c e p n m m' below wetted grows =
 
 -- with the rain fixed, a curve number that is higher by e never gives less
 raised : (c e p : ℕ) → CurveOk c → CurveOk (c + e) → depth c p ≤ depth (c + e) p
-raised c e p ok high = ⊎-elim wet dry (below-or-not 2000000 (c * p + 2000 * c))
+raised c e p ok high = compared c p (c + e) p ok high (λ h. omega arith) across
   where
     across : 2000000 < c * p + 2000 * c → (1000 * (N c p * N c p)) * ((c + e) * M (c + e) p) ≤ (1000 * (N (c + e) p * N (c + e) p)) * (c * M c p)
     across h =
         let n : N (c + e) p ≡ N c p + e * p + 2000 * e = omega arith in
         rw n (steeper c e p (N c p) (M c p) (M (c + e) p) (N-M c ok p) (omega arith) (omega (arith, ok .most, high .most)))
-
-    wet : 2000000 < c * p + 2000 * c → depth c p ≤ depth (c + e) p
-    wet h =
-        rw (depth-some c p h, depth-some (c + e) p (omega arith))
-        (div-cross (1000 * (N c p * N c p)) (c * M c p) (1000 * (N (c + e) p * N (c + e) p)) ((c + e) * M (c + e) p) (M-some c ok p) (M-some (c + e) high p) (across h))
-
-    dry : c * p + 2000 * c ≤ 2000000 → depth c p ≤ depth (c + e) p
-    dry h = rw (depth-none c p h) (omega arith)
 
 -- with the rain fixed, a higher curve number never gives less
 pub depth-higher : (c d p : ℕ) → CurveOk c → CurveOk d → c ≤ d → depth c p ≤ depth d p

@@ -9,7 +9,7 @@ use Rattle.laws.proofs.Num.{below-or-not}
 use Rattle.runoff.specs.RunoffDepth.{N, M, depth, wholeN, wholeM, wholeDepth}
 use Rattle.runoff.proofs.Rising.{depth-some, depth-none}
 
--- a quotient whose numbers are both ten times n, both ten times C, or ten times m, is the same
+-- with n, C and m each ten times what they are, the quotient is the same
 tenfold : (C n m : ℕ) → 1000 * ((10 * n) * (10 * n)) / ((10 * C) * (10 * m)) ≡ 1000 * (n * n) / (C * m)
 tenfold C n m =
     let above : 1000 * ((10 * n) * (10 * n)) ≡ 100 * (1000 * (n * n)) = omega arith in
