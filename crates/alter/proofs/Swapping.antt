@@ -8,12 +8,13 @@ use lib.ListN.{length}
 use lib.Seq.{ext-getD}
 use Rattle.laws.specs.Filled.{Filled}
 use Rattle.laws.proofs.Sums.{sum-term}
-use Rattle.hydrograph.specs.Needs.{plus, RoomOk}
+use Rattle.laws.specs.Listed.{plus, rowsFrom}
+use Rattle.laws.proofs.Listed.{rows-length, rows-at, plus-length, plus-at}
+use Rattle.hydrograph.specs.Needs.{RoomOk}
 use Rattle.rows.specs.Figures.{at}
 use Rattle.checks.specs.Site.{Site}
 use Rattle.subarea.specs.Records.{recordsIn, recordAt}
-use Rattle.inflow.specs.Inflow.{partOf, inflowAt, rowsFrom, inflowRows}
-use Rattle.inflow.proofs.Inflows.{rows-length, rows-at, rows-same, plus-rows}
+use Rattle.inflow.specs.Inflow.{partOf, inflowAt, inflowRows}
 use Rattle.alter.specs.Altering.{altered, oldPart, freshPart, swapped, newInflow}
 use Rattle.alter.specs.Needs.{PlaceOk, PartsOk}
 use Rattle.alter.proofs.Places.{sum-altered}
@@ -34,29 +35,11 @@ module _ (f g : ℕ → ℕ) where
       let e : k + 1 + i ≡ k + suc i = omega arith in
       swapped-at (k + 1) vs i (le-of-suc-le-suc l) ∙ ap (λ (z : ℕ). at vs i - f z + g z) e
 
--- rows with a part added
-module _ (g : ℕ → ℕ) where
-  pub plus-length : (k : ℕ) (vs : List ℕ) → length (plus g k vs) ≡ length vs
-  unfolding plus
-  plus-length k [] = refl
-  plus-length k (v ∷ vs) = ap suc (plus-length (k + 1) vs)
-
-  pub plus-at : (k : ℕ) (vs : List ℕ) (i : ℕ) → i < length vs → at (plus g k vs) i ≡ at vs i + g (k + i)
-  unfolding plus
-  plus-at k [] i l = absurd (omega arith)
-  plus-at k (v ∷ vs) zero l = let e : k ≡ k + 0 = omega arith in ap (λ (z : ℕ). v + g z) e
-  plus-at k (v ∷ vs) (suc i) l =
-      let e : k + 1 + i ≡ k + suc i = omega arith in
-      plus-at (k + 1) vs i (le-of-suc-le-suc l) ∙ ap (λ (z : ℕ). at vs i + g z) e
-
--- rows of zeros leave room for a part, and with a part added are that part
+-- rows of zeros leave room for a part
 pub zeros-room : (n : ℕ) → n ≤ 2000 → RoomOk (rowsFrom (λ (k : ℕ). 0) 1 n)
 zeros-room n few =
     let long = rows-length (λ (k : ℕ). 0) 1 n in
     record { most = omega (arith, long, few); room = λ i l. rw (rows-at (λ (k : ℕ). 0) 1 n i (omega (arith, long, l))) (omega arith) }
-
-pub plus-zeros : (f : ℕ → ℕ) (n : ℕ) → plus f 1 (rowsFrom (λ (k : ℕ). 0) 1 n) ≡ rowsFrom f 1 n
-plus-zeros f n = plus-rows f (λ (k : ℕ). 0) 1 n ∙ rows-same (λ k. 0 + f k) f 1 n (λ k. omega arith)
 
 -- rows that have the parts fs taken away, with the parts g added
 pub swap-filled : (g : ℕ → ℕ) (vs fs rows : List ℕ) → length rows ≡ length vs → Filled (λ (i : ℕ). at vs i - at fs i) (length vs) rows

@@ -10,10 +10,11 @@ ghost use lib.ListN.{length};
 ghost use Rattle.laws.specs.Filled.{Filled};
 ghost use Rattle.curve.specs.declared.Classes.{Classes};
 ghost use Rattle.laws.specs.Limits.{mostRows, mostArea};
+ghost use Rattle.laws.specs.Listed.{rowsFrom};
 ghost use Rattle.hydrograph.specs.Needs.{RainOk};
 ghost use Rattle.rows.specs.Figures.{at};
 ghost use Rattle.subarea.specs.Records.{areaOf};
-ghost use Rattle.inflow.specs.Inflow.{partOf, rowsFrom};
+ghost use Rattle.inflow.specs.Inflow.{partOf};
 ghost use Rattle.study.specs.Study.{classesAll};
 ghost use Rattle.checks.specs.Needs.{RecordOk};
 ghost use Rattle.alter.specs.Altering.{altered, swapped, firstChanged};
@@ -24,7 +25,7 @@ pub fn fill_parts(setup: Setup, rain: &[u64], own: &[u64], rows: &mut [u64])
     requires { ⌜ RecordOk setup (now own) × ((areaOf (now own) ≤ mostArea) × (RainOk (now rain) × (length (now rows) ≤ mostRows))) ⌝ }
     ensures { λ _. ⌜ now (rows .exit) ≡ rowsFrom (partOf setup (now (rain .entry)) (now (own .entry))) 1 (length (now (rows .entry))) ⌝ }
 {
-    inflow::clear(rows);
+    laws::clear(rows);
     inflow::add_record(setup, rain, own, rows);
 }
 

@@ -41,7 +41,12 @@ module _ (rain : List ℕ) where
   rises : (i : ℕ) → entryGood rain (i + 1) ≡ true → getD rain i 0 ≤ getD rain (i + 1) 0
   rises i e = leb-true _ _ (rw (ne-eqb (i + 1) 0 (omega arith), add-sub-cancel i 1) at (entry-order (i + 1) e))
 
-  -- 3 leaves a rain within its limits
+  -- 3 leaves no more entries than one more than the rows
+  entries-few : (m : ℕ) → AllPass (rainLines rain m) → length rain ≤ m + 1
+  unfolding entriesGood
+  entries-few m (count, _) = kept 2 (length rain) (m + 1) (charge-none 2 _ 0 count) .high
+
+  -- and a rain within its limits
   rain-ok : (m : ℕ) → AllPass (rainLines rain m) → RainOk rain
   unfolding entriesGood
   rain-ok m (count, (entry, _)) =
@@ -121,6 +126,7 @@ run-ok x l a =
       lengths = frame .0;
       step = frame .1;
       rule = rule-ok (g .rule) (charge-none 19 _ 0 (p .1 .0));
+      few = entries-few (x .rain) (asked l) (q .0);
       raining = rain-ok (x .rain) (asked l) (q .0);
       rises = rises-ok (x .rain) (asked l) (q .0);
       last = last-ok (g .first) (asked l) (charge-none 3 _ 0 (q .1 .0));

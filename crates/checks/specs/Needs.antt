@@ -48,6 +48,7 @@ pub record RunOk (x : Site) (l : Rows) : Type 0 where
   pub lengths : LengthsOk l
   pub step : StepOk (x .setup .step)
   pub rule : RuleOk (x .setup .rule)
+  pub few : length (x .rain) ≤ asked l + 1
   pub raining : RainOk (x .rain)
   pub rises : RisesOk (x .rain)
   pub last : x .setup .first + asked l - 1 ≤ lastNumber

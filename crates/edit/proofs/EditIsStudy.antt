@@ -8,6 +8,7 @@ use lib.Dec.{eqb}
 use lib.ListN.{length}
 use Rattle.laws.specs.Pick.{pick}
 use Rattle.laws.specs.Sum.{sumTo}
+use Rattle.laws.proofs.Listed.{rows-length}
 use Rattle.pond.specs.PondRows.{empty}
 use Rattle.rows.specs.Routing.{outflowOf, storageOf}
 use Rattle.rows.specs.Figures.{at, releaseAt}
@@ -21,7 +22,6 @@ use Rattle.subarea.specs.Records.{width, recordsIn, halfOf}
 use Rattle.inflow.specs.Inflow.{inflowAt, inflowRows, inflowOf}
 use Rattle.study.specs.Study.{overOf, studyRefusal, studyAnswer, studyRows, studyFigures, routed}
 use Rattle.checks.specs.Order.{checkLines, lengthsGood}
-use Rattle.inflow.proofs.Inflows.{rows-length}
 use Rattle.refusals.proofs.Orders.{none-new, both-pass}
 use Rattle.checks.proofs.Ready.{site-ok}
 use Rattle.study.proofs.Order.{study-passes, row-numbers, study-balance}

@@ -11,17 +11,19 @@ use Rattle.laws.proofs.Sums.{sum-term}
 use Rattle.laws.proofs.Scans.{scan-all, scan-most, scan-whole, scan-same}
 use Rattle.laws.proofs.Tests.{both-left, both-right, both-true}
 use Rattle.laws.specs.Limits.{mostRows, mostArea, mostInflow}
+use Rattle.laws.specs.Listed.{rowsFrom}
+use Rattle.laws.proofs.Listed.{rows-length, rows-at}
 use Rattle.hydrograph.specs.Needs.{RainOk}
 use Rattle.rows.specs.Needs.{InflowOk}
 use Rattle.rows.specs.Figures.{at, standsGood, firstForged}
 use Rattle.rows.proofs.Told.{rows-ok}
 use Rattle.checks.specs.Site.{Site, Rows}
 use Rattle.subarea.specs.Records.{recordsIn, recordAt, areaOf, halfOf}
-use Rattle.inflow.specs.Inflow.{inflowAt, rowsFrom, inflowRows}
+use Rattle.inflow.specs.Inflow.{inflowAt, inflowRows}
 use Rattle.checks.specs.Needs.{RecordOk, ListOk}
 use Rattle.refusals.specs.Refusals.{AllPass}
 use Rattle.refusals.proofs.Orders.{first-none}
-use Rattle.inflow.proofs.Inflows.{rows-length, rows-at, part-most, inflow-most}
+use Rattle.inflow.proofs.Inflows.{part-most, inflow-most}
 use Rattle.alter.specs.Altering.{oldRecord, oldPart, freshPart, newInflow, newInflowOf}
 use Rattle.alter.specs.Needs.{PlaceOk, PartsOk, GroundOk}
 use Rattle.alter.proofs.Swapping.{swapped-length, swapped-at, part-in}

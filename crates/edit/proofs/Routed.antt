@@ -28,7 +28,6 @@ use Rattle.study.specs.Study.{overCheck, overOf, studyRefusal, studyAnswer, stu
 use Rattle.inflow.specs.Inflow.{inflowAt, inflowOf}
 use Rattle.checks.specs.Needs.{SiteOk}
 use Rattle.refusals.proofs.Orders.{both-pass, none-new, past, skipped}
-use Rattle.inflow.proofs.Inflows.{rows-length}
 use Rattle.checks.proofs.Ready.{site-ok}
 use Rattle.study.proofs.Order.{study-passes}
 use Rattle.alter.specs.Altering.{altered, alteredSite, newInflow, newInflowOf, firstChanged, placeGood}
@@ -37,6 +36,7 @@ use Rattle.alter.proofs.Places.{altered-length}
 use Rattle.alter.proofs.Swapping.{new-is}
 use Rattle.edit.specs.declared.EditAnswer.the-variants.{Refused, Done}
 use Rattle.laws.specs.Limits.{mostRows}
+use Rattle.laws.proofs.Listed.{rows-length}
 use Rattle.edit.specs.Edit.{unfitOf, overFrom, editRefusal, rerouted, newRows, figuresIn, editedOf, editDone, editAnswer, editRows}
 use Rattle.edit.specs.Standing.{studyIn, Studied, EditIsStudy}
 use Rattle.edit.proofs.Changed.{rows-equal, changed-most, changed-front}

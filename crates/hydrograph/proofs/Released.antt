@@ -4,10 +4,11 @@ use mathlib.Core.Logic.{⊎-elim}
 use mathlib.Core.List.{List}
 use Prim.Native.Nat.{ℕ, zero, suc, _+_, _-_, _*_, _/_, _≤_, _<_, min}
 use lib.ListN.{length, getD}
-use native.Mathlib.Nat.{eq-or-lt-of-le, le-of-suc-le-suc, le-trans, le-refl, mul-le-mul-left, mul-div-cancel, mul-comm, div-mul-le-self, div-le-of-le-mul, le-div-iff-mul-le, zero-div}
+use native.Mathlib.Nat.{eq-or-lt-of-le, le-of-suc-le-suc, le-trans, le-refl, mul-le-mul-left, mul-div-cancel, mul-comm, div-le-of-le-mul, zero-div}
 use native.Mathlib.Numerals.{add-one}
 use native.Mathlib.Omega.{arith}
 use Rattle.laws.specs.Sum.{sumTo}
+use Rattle.laws.proofs.Num.{div-rises}
 use Rattle.laws.proofs.Sums.{sum-le, sum-same, sum-times, sum-zeros}
 use Rattle.curve.specs.Needs.{CurveOk}
 use Rattle.laws.specs.Limits.{mostArea}
@@ -16,10 +17,6 @@ use Rattle.runoff.proofs.Rising.{depth-rises, depth-most, depth-bound}
 use Rattle.hydrograph.specs.InflowRows.{weight, weightAt, weights, totalWeight, runoffAt, term, depthReleased, volumeOf, volume, part}
 use Rattle.hydrograph.specs.Needs.{TimingOk, RainOk}
 use Rattle.hydrograph.proofs.Weights.{total-some}
-
--- a quotient never falls as its dividend rises
-div-rises : (a b d : ℕ) → 0 < d → a ≤ b → a / d ≤ b / d
-div-rises a b d some l = le-div-iff-mul-le some .1 (le-trans (div-mul-le-self a d) l)
 
 -- the rain never falls, from any entry to any later one
 rain-rises : (rain : List ℕ) → RainOk rain → (i j : ℕ) → i ≤ j → j < length rain → getD rain i 0 ≤ getD rain j 0
@@ -70,16 +67,20 @@ module _ (c : ℕ) (rain : List ℕ) (curve : CurveOk c) (ok : RainOk rain) wher
         (sum-le (λ i. term c Tp D rain a (i + 1)) (λ i. term c Tp D rain b (i + 1)) (weights Tp D)
         (λ i h. mul-le-mul-left (weight Tp D (i + 1)) (runoff-rises (a + 1 - (i + 1)) (b + 1 - (i + 1)) (omega arith))))
 
-    -- and is at most 30,000,000
-    pub released-most : (k : ℕ) → depthReleased c Tp D rain k ≤ 30000000
-    unfolding depthReleased totalWeight
-    released-most k =
-        div-le-of-le-mul W
-        (omega (
+    -- the sum through a row is at most 30,000,000 times W
+    pub sum-bound : (k : ℕ) → sumAt k ≤ 30000000 * W
+    unfolding totalWeight
+    sum-bound k =
+        omega (
           arith,
           sum-times 30000000 (weightAt Tp D) (weights Tp D),
           sum-le (λ i. term c Tp D rain k (i + 1)) (λ i. 30000000 * weightAt Tp D i) (weights Tp D) (λ i h. omega (arith, mul-le-mul-left (weight Tp D (i + 1)) (runoff-most (k + 1 - (i + 1))))),
-        ))
+        )
+
+    -- so the depth is at most 30,000,000
+    pub released-most : (k : ℕ) → depthReleased c Tp D rain k ≤ 30000000
+    unfolding depthReleased
+    released-most k = div-le-of-le-mul W (omega (arith, sum-bound k))
 
     -- nothing is released before the first row
     pub released-none : depthReleased c Tp D rain 0 ≡ 0

@@ -5,7 +5,7 @@ use Prim.Native.Nat.{ℕ, zero, suc, _+_, _-_, _*_, _/_, min}
 use lib.ListN.{length, getD}
 use lib.Dec.{leb, ltb}
 use Rattle.laws.specs.Scan.{scan}
-use Rattle.laws.specs.Sum.{sumTo}
+use Rattle.laws.specs.Sum.{sumTo, sumFrom1}
 use Rattle.laws.specs.Limits.{mostTime, mostWeights}
 use Rattle.runoff.specs.RunoffDepth.{depth}
 use Rattle.travel.specs.TravelTime.{timeToPeak}
@@ -61,10 +61,6 @@ weightAt Tp D i = weight Tp D (i + 1)
 -- the number of weights: j from 1 while j D <= 5 Tp
 abbrev pub weights : ℕ → ℕ → ℕ
 weights Tp D = 5 * Tp / D
-
--- f 1 + .. + f n
-abbrev pub sumFrom1 : (ℕ → ℕ) → ℕ → ℕ
-sumFrom1 f n = sumTo (λ i. f (i + 1)) n
 
 -- W, the sum of weights
 unfoldable pub totalWeight : ℕ → ℕ → ℕ

@@ -1,6 +1,6 @@
 -- What contracts ask of the rain, the step and Tp, and proofs use; no rule of document 01 is here.
 use mathlib.Core.Path.{_≡_}
-use mathlib.Core.List.{List, [], _∷_}
+use mathlib.Core.List.{List}
 use Prim.Native.Nat.{ℕ, _+_, _-_, _*_, _≤_, _<_}
 use lib.ListN.{length, getD}
 use Rattle.laws.specs.Limits.{mostRows, leastStep, mostStep, mostRain, mostWeights}
@@ -8,11 +8,6 @@ use Rattle.laws.specs.Limits.{mostRows, leastStep, mostStep, mostRain, mostWeig
 -- number i of one list times the number of another that stands as many places before k
 abbrev pub product : List ℕ → List ℕ → ℕ → ℕ → ℕ
 product w q k i = getD w i 0 * getD q (k - i) 0
-
--- a list of rows from row k on, each with f of its row added
-unfoldable pub plus : (ℕ → ℕ) → ℕ → List ℕ → List ℕ
-plus f k [] = []
-plus f k (v ∷ vs) = (v + f k) ∷ plus f (k + 1) vs
 
 -- no runoff depth is above this, in millionths of an inch
 abbrev pub mostDepth : ℕ

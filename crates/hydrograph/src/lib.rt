@@ -7,10 +7,11 @@ ghost use Prim.Native.Nat.{_+_, _-_, _*_, _≤_, _<_, min};
 ghost use lib.ListN.{length};
 ghost use Rattle.laws.specs.Sum.{sumTo};
 ghost use Rattle.laws.specs.Filled.{Filled};
+ghost use Rattle.laws.specs.Listed.{plus};
 ghost use Rattle.curve.specs.Needs.{CurveOk};
 ghost use Rattle.travel.specs.Needs.{TimeOk};
 ghost use Rattle.hydrograph.specs.InflowRows.{time, ratio, lineAt, onLine, weight, weightAt, weights, totalWeight, runoffAt, volumeOf, part, concentrationGood, peakGood, weightsGood};
-ghost use Rattle.hydrograph.specs.Needs.{product, plus, LineOk, TimingOk, RainOk, Below, RoomOk, mostDepth};
+ghost use Rattle.hydrograph.specs.Needs.{product, LineOk, TimingOk, RainOk, Below, RoomOk, mostDepth};
 ghost use Rattle.laws.specs.Limits.{mostRows, mostStep, mostArea, mostWeights};
 
 // A depth for each row, and the one before the first.

@@ -4,17 +4,12 @@ use mathlib.Core.List.{List}
 use Prim.Native.Nat.{ℕ}
 use denote.Ref.{now}
 use Rattle.laws.proofs.OneAnswer.{OneAnswerAnd, same}
-use Rattle.inflow.proofs.clear.Kinds as clear-kinds
-use Rattle.inflow.proofs.clear.Reads as clear-reads
 use Rattle.inflow.proofs.add_record.Kinds as add-record-kinds
 use Rattle.inflow.proofs.add_record.Reads as add-record-reads
 use Rattle.inflow.proofs.fill.Kinds as fill-kinds
 use Rattle.inflow.proofs.fill.Reads as fill-reads
 use Rattle.inflow.proofs.run.Kinds as run-kinds
 use Rattle.inflow.proofs.run.Reads as run-reads
-
-pub clear-one : OneAnswerAnd clear-kinds.ps clear-kinds.r {L = List ℕ} (λ κs s. now (s .0)) clear-reads.Post
-clear-one κs a x y s t p q = (refl, same p q)
 
 pub add-record-one : OneAnswerAnd add-record-kinds.ps add-record-kinds.r {L = List ℕ} (λ κs s. now (s .1 .1 .1 .0)) add-record-reads.Post
 add-record-one κs a x y s t p q = (refl, same p q)

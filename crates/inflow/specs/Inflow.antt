@@ -1,7 +1,8 @@
 -- Document 01, 'Inflow rows': the parts of the subareas, summed row by row; and the inflow rows alone, without a pond.
-use mathlib.Core.List.{List, [], _∷_}
-use Prim.Native.Nat.{ℕ, zero, suc, _+_}
+use mathlib.Core.List.{List}
+use Prim.Native.Nat.{ℕ}
 use Rattle.laws.specs.Sum.{sumTo}
+use Rattle.laws.specs.Listed.{rowsFrom}
 use Rattle.hydrograph.specs.InflowRows.{part}
 use Rattle.refusals.specs.declared.Refusal.{Refusal}
 use Rattle.refusals.specs.Refusals.{firstRefusal, after}
@@ -17,11 +18,6 @@ partOf g rain r k = part (curveTenths r) (areaOf r) (peakOf g r) (g .step) rain 
 -- a row's inflow volume is the sum over subareas
 abbrev pub inflowAt : Setup → List ℕ → List ℕ → ℕ → ℕ
 inflowAt g rain s k = sumTo (λ i. partOf g rain (recordAt s i) k) (recordsIn s)
-
--- f k, f (k + 1), .. : n of them
-unfoldable pub rowsFrom : (ℕ → ℕ) → ℕ → ℕ → List ℕ
-rowsFrom f k zero = []
-rowsFrom f k (suc n) = f k ∷ rowsFrom f (k + 1) n
 
 -- the inflow rows 1 to m
 abbrev pub inflowRows : Setup → List ℕ → List ℕ → ℕ → List ℕ

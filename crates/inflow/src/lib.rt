@@ -5,11 +5,12 @@ ghost use mathlib.Core.Path.{_≡_};
 ghost use Prim.Native.Nat.{ℕ, _≤_};
 ghost use lib.ListN.{length};
 ghost use Rattle.laws.specs.Limits.{mostRows, mostArea};
-ghost use Rattle.hydrograph.specs.Needs.{plus, RainOk, RoomOk};
+ghost use Rattle.laws.specs.Listed.{plus, rowsFrom};
+ghost use Rattle.hydrograph.specs.Needs.{RainOk, RoomOk};
 ghost use Rattle.subarea.specs.Records.{areaOf};
 ghost use Rattle.checks.specs.Site.{basin, found};
 ghost use Rattle.checks.specs.Needs.{RecordOk, ListOk};
-ghost use Rattle.inflow.specs.Inflow.{partOf, rowsFrom, inflowRows, inflowRefusal, inflowAfter};
+ghost use Rattle.inflow.specs.Inflow.{partOf, inflowRows, inflowRefusal, inflowAfter};
 
 // Adds a record's part to each row.
 pub fn add_record(setup: Setup, rain: &[u64], own: &[u64], rows: &mut [u64])
@@ -36,23 +37,12 @@ fn add_records(setup: Setup, rain: &[u64], subareas: &[u64], rows: &mut [u64])
     }
 }
 
-// Writes zeros over a list.
-pub fn clear(rows: &mut [u64])
-    ensures { λ _. ⌜ now (rows .exit) ≡ rowsFrom (λ (k : ℕ). 0) 1 (length (now (rows .entry))) ⌝ }
-{
-    let mut i = 0;
-    while i < rows.len() {
-        rows[i] = 0;
-        i += 1;
-    }
-}
-
 // Writes the inflow rows over whatever the list had.
 pub fn fill(setup: Setup, rain: &[u64], subareas: &[u64], rows: &mut [u64])
     requires { ⌜ ListOk setup (now subareas) × (RainOk (now rain) × (length (now rows) ≤ mostRows)) ⌝ }
     ensures { λ _. ⌜ now (rows .exit) ≡ inflowRows setup (now (rain .entry)) (now (subareas .entry)) (length (now (rows .entry))) ⌝ }
 {
-    clear(rows);
+    laws::clear(rows);
     add_records(setup, rain, subareas, rows);
 }
 

@@ -2,7 +2,9 @@ pub mod Num
 pub mod Tests
 pub mod Scans
 pub mod Sums
+pub mod Laying
 pub mod Fill
+pub mod Listed
 pub mod Flats
 pub mod OneAnswer
 pub mod Answers

@@ -1,5 +1,5 @@
 -- Laws of a sum over an index. Assumes nothing.
-use mathlib.Core.Path.{_≡_, refl, ap}
+use mathlib.Core.Path.{_≡_, refl, sym, ap, _∙_}
 use mathlib.Core.Logic.{⊎-elim}
 use Prim.Native.Nat.{ℕ, zero, suc, _+_, _*_, _≤_, _<_}
 use native.Mathlib.Nat.{eq-or-lt-of-le, le-of-suc-le-suc}
@@ -67,3 +67,9 @@ pub sum-upto : (f : ℕ → ℕ) (m n : ℕ) → m ≤ n → sumTo f m ≤ sumTo
 unfolding sumTo
 sum-upto f m zero l = let e : m ≡ 0 = omega arith in rw e (omega arith)
 sum-upto f m (suc n) l = ⊎-elim (λ (e : m ≡ suc n). rw e (omega arith)) (λ (k : m < suc n). omega (arith, sum-upto f m n (le-of-suc-le-suc k))) (eq-or-lt-of-le l)
+
+-- a sum of sums, by the other index first
+pub sum-swap : (f : ℕ → ℕ → ℕ) (n m : ℕ) → sumTo (λ i. sumTo (λ j. f i j) m) n ≡ sumTo (λ j. sumTo (λ i. f i j) n) m
+unfolding sumTo
+sum-swap f zero m = sym (sum-zeros (λ j. 0) 0 m (omega arith) (λ i a b. refl))
+sum-swap f (suc n) m = ap (λ (z : ℕ). z + sumTo (λ j. f n j) m) (sum-swap f n m) ∙ sym (sum-add (λ j. sumTo (λ i. f i j) n) (λ j. f n j) m)

@@ -5,4 +5,5 @@ pub mod Within
 pub mod Places
 pub mod Flat
 pub mod Filled
+pub mod Listed
 pub mod Limits

@@ -5,3 +5,7 @@ use Prim.Native.Nat.{ℕ, zero, suc, _+_}
 unfoldable pub sumTo : (ℕ → ℕ) → ℕ → ℕ
 sumTo f zero = 0
 sumTo f (suc n) = sumTo f n + f n
+
+-- f 1 + .. + f n
+abbrev pub sumFrom1 : (ℕ → ℕ) → ℕ → ℕ
+sumFrom1 f n = sumTo (λ i. f (i + 1)) n

@@ -3,7 +3,10 @@ pub mod limits;
 
 ghost use mathlib.Core.Path.{_≡_};
 ghost use mathlib.Core.Bool.{_&&_};
+ghost use Prim.Native.Nat.{ℕ};
+ghost use lib.ListN.{length};
 ghost use Rattle.laws.specs.Within.{within};
+ghost use Rattle.laws.specs.Listed.{rowsFrom};
 
 // Both tests hold: a chain of tests as one straight line, with no early return.
 pub fn both(a: bool, b: bool) -> bool
@@ -17,4 +20,15 @@ pub fn within(least: u64, x: u64, most: u64) -> bool
     ensures { λ r. ⌜ r ≡ within least x most ⌝ }
 {
     both(least <= x, x <= most)
+}
+
+// Writes zeros over a list.
+pub fn clear(rows: &mut [u64])
+    ensures { λ _. ⌜ now (rows .exit) ≡ rowsFrom (λ (k : ℕ). 0) 1 (length (now (rows .entry))) ⌝ }
+{
+    let mut i = 0;
+    while i < rows.len() {
+        rows[i] = 0;
+        i += 1;
+    }
 }

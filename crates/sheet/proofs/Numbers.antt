@@ -8,6 +8,7 @@ use borrow.Author.Tests.{eqb-true}
 use lib.Dec.{eqb}
 use lib.ListN.{length}
 use Rattle.laws.specs.Pick.{pick}
+use Rattle.laws.proofs.Listed.{rows-length}
 use Rattle.pond.specs.PondRows.{empty}
 use Rattle.rows.specs.Routing.{outflows, outflowOf}
 use Rattle.rows.specs.Figures.{figuresOf, keptTo, peakRow}
@@ -19,7 +20,6 @@ use Rattle.checks.specs.Site.{Site, Rows, asked}
 use Rattle.checks.specs.Order.{checkLines}
 use Rattle.checks.proofs.Ready.{site-ok}
 use Rattle.inflow.specs.Inflow.{inflowAt, inflowOf}
-use Rattle.inflow.proofs.Inflows.{rows-length}
 use Rattle.study.specs.declared.StudyAnswer.the-variants.{Refused, Done}
 use Rattle.study.specs.Study.{overOf, studyRefusal, studyFigures, studyAnswer}
 use Rattle.study.proofs.Order.{study-passes, row-numbers}

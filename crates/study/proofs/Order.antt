@@ -8,6 +8,7 @@ use borrow.Author.Tests.{eqb-true, eq-eqb}
 use lib.Dec.{eqb}
 use Rattle.laws.specs.Pick.{pick}
 use Rattle.laws.specs.Sum.{sumTo}
+use Rattle.laws.proofs.Listed.{rows-length}
 use Rattle.pond.specs.PondRows.{empty}
 use Rattle.rows.specs.Routing.{overRow}
 use Rattle.rows.specs.Figures.{at, releaseAt}
@@ -23,7 +24,6 @@ use Rattle.checks.specs.Order.{runLines, listLines, pondLines, inflowLines, che
 use Rattle.inflow.specs.Inflow.{inflowAt, inflowOf}
 use Rattle.subarea.specs.Records.{halfOf}
 use Rattle.refusals.proofs.Orders.{all-pass, both-pass, last-is, first-there}
-use Rattle.inflow.proofs.Inflows.{rows-length}
 use Rattle.checks.proofs.Ready.{site-ok, sheets-ok}
 
 over-passes : (h : ℕ) (p vs : List ℕ) → overCheck h p vs .number ≡ 0 → (overCheck h p vs ≡ none) × (overRow h p empty vs ≡ 0)

@@ -9,6 +9,7 @@ use Rattle.laws.specs.Sum.{sumTo}
 use Rattle.laws.specs.Within.{within}
 use Rattle.laws.proofs.Scans.{scan-same}
 use Rattle.laws.proofs.Sums.{sum-same}
+use Rattle.laws.proofs.Listed.{rows-same}
 use Rattle.curve.specs.CurveNumbers.{mostPatches, totalArea, compositeTenths, patchesIn, classArea, patchesGood}
 use Rattle.curve.specs.declared.Classes.{Classes}
 use Rattle.travel.specs.TravelTime.{mostSegments, timeToPeak, sheetLimit, segmentsGood}
@@ -24,7 +25,6 @@ use Rattle.subarea.specs.Records.{halfOf, width, recordsIn, recordAt, patchCoun
 use Rattle.checks.specs.Site.{Site, Rows, asked, withSubareas}
 use Rattle.checks.specs.Order.{ListTest, each, total, overList, listTests, listLines, recordsGood, foreLines, runLines, pondLines}
 use Rattle.inflow.specs.Inflow.{partOf, inflowAt, inflowRows, inflowOf}
-use Rattle.inflow.proofs.Inflows.{rows-same}
 use Rattle.study.specs.declared.StudyAnswer.the-variants.{Refused, Done}
 use Rattle.study.specs.Study.{classTotal, classesAll, figuresWith, figuresAll, routed, overCheck, studyRefusal, studyAnswer, studyRows}
 

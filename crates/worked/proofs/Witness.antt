@@ -6,6 +6,7 @@ use native.Mathlib.Omega.{arith}
 use Rattle.laws.specs.Scan.{scan}
 use Rattle.laws.specs.Sum.{sumTo}
 use Rattle.laws.specs.Flat.{flatGood}
+use Rattle.laws.specs.Listed.{rowsFrom}
 use Rattle.curve.specs.CurveNumbers.{coverTable, coverNumber, classOf, totalArea, weighted, nearest, meanTenths, compositeTenths, patchWithin, patchesGood}
 use Rattle.runoff.specs.RunoffDepth.{depth, wholeDepth}
 use Rattle.travel.specs.TravelTime.{segmentTime, concentration, timeToPeak, ruleGood, sheetLimit, segmentWithin, placeWithin, segmentsGood, SameSegment}
@@ -17,7 +18,6 @@ use Rattle.refusals.specs.Refusals.{firstAfter}
 use Rattle.subarea.specs.Records.{recordAt, segments, patchesPass, segmentsPass, SameRecord, SameRead}
 use Rattle.checks.specs.Site.{Rows, withSubareas}
 use Rattle.checks.specs.Order.{lengthsGood, stepGood, entriesGood, lastGood, recordsGood}
-use Rattle.inflow.specs.Inflow.{rowsFrom}
 use Rattle.study.specs.Study.{overCheck, studyRefusal, studyAnswer, studyRows}
 use Rattle.alter.specs.Altering.{swapped, firstChanged, placeGood}
 use Rattle.edit.specs.Edit.{inflowFits, overFrom, editRefusal, editedOf, editAnswer, editRows}

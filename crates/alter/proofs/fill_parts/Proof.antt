@@ -2,9 +2,10 @@
 use mathlib.Core.Path.{ap, _∙_}
 use borrow.Author.Needs.{needs}
 use lib.ListN.{length}
-use Rattle.hydrograph.specs.Needs.{plus}
+use Rattle.laws.specs.Listed.{plus}
+use Rattle.laws.proofs.Listed.{plus-zeros}
 use Rattle.inflow.specs.Inflow.{partOf}
-use Rattle.alter.proofs.Swapping.{zeros-room, plus-zeros}
+use Rattle.alter.proofs.Swapping.{zeros-room}
 use Rattle.alter.proofs.fill_parts.Statement.{statement}
 use Rattle.alter.proofs.fill_parts.Tie as tie
 

@@ -5,15 +5,16 @@ use Prim.Native.Nat.{ℕ, _-_, _*_}
 use native.Mathlib.Omega.{arith}
 use borrow.Author.Needs.{needs}
 use lib.ListN.{length}
+use Rattle.laws.specs.Listed.{rowsFrom}
+use Rattle.laws.proofs.Listed.{rows-length}
 use Rattle.rows.specs.Figures.{at}
 use Rattle.refusals.specs.declared.Refusal.{Refusal}
 use Rattle.checks.specs.Site.{Site, Rows, siteNow, rowsNow}
 use Rattle.subarea.specs.Records.{halfOf, width}
 use Rattle.refusals.specs.Refusals.{firstOf, firstRefusal, AllPass}
-use Rattle.inflow.specs.Inflow.{partOf, rowsFrom}
+use Rattle.inflow.specs.Inflow.{partOf}
 use Rattle.refusals.proofs.Orders.{all-pass}
 use Rattle.subarea.proofs.Subareas.{part-is}
-use Rattle.inflow.proofs.Inflows.{rows-length}
 use Rattle.alter.specs.Altering.{oldPart, freshPart, swapped, newInflowOf}
 use Rattle.alter.proofs.Swapping.{swapped-length, swap-is}
 use Rattle.checks.specs.Order.{forgedLine}

@@ -5,16 +5,17 @@ use native.Mathlib.Omega.{arith}
 use borrow.Author.Needs.{needs}
 use lib.ListN.{length}
 use Rattle.laws.specs.Sum.{sumTo}
+use Rattle.laws.proofs.Listed.{adding-start, row-due, adding-end}
 use Rattle.hydrograph.specs.InflowRows.{weights, term, depthReleased, volumeOf, volume}
 use Rattle.hydrograph.specs.Needs.{product, TimingOk, RainOk}
 use Rattle.hydrograph.proofs.Weights.{weights-most, total-some}
 use Rattle.hydrograph.proofs.Released.{released-most, volume-rises, volume-most, volume-none}
-use Rattle.hydrograph.proofs.Parts.{Adding, products, weights-below, depths-below, row-first, adding-turn, adding-end}
+use Rattle.hydrograph.proofs.Parts.{Working, products, weights-below, depths-below, working-turn}
 use Rattle.hydrograph.proofs.add_parts.Statement.{statement}
 use Rattle.hydrograph.proofs.add_parts.Tie as tie
 
 abbrev Inv-loop : tie.InvT-loop
-Inv-loop tenths A Tp D rain first ws qs total count before₀ i₀ rows before i = Adding tenths A Tp D rain first ws qs total count rows before i
+Inv-loop tenths A Tp D rain first ws qs total count before₀ i₀ rows before i = Working tenths A Tp D rain first ws qs total count rows before i
 
 abbrev μ-loop : tie.MeasureT-loop
 μ-loop tenths A Tp D rain first ws qs total count before₀ i₀ rows before i = length first - i
@@ -45,15 +46,12 @@ loop-holds : tie.Need-loop-holds Inv-loop μ-loop
 loop-holds c =
     let s = c .before .before .before .before .before .before in
     record {
-      at = omega arith;
-      long = refl;
       weighed = c .before .before .fill-weights .ensures .1;
       ran = c .fill-depths .ensures;
       all = c .before .before .fill-weights .ensures .0;
       many = refl;
       so-far = sym (volume-none (s .args .tenths) (s .args .rain .now) (s .pre .0) (s .pre .1 .1 .1 .0) (s .args .step) (s .args .peak) (s .pre .1 .1 .0) (s .args .area));
-      written = refl;
-      due = refl;
+      adding = adding-start _ _;
     }
 
 dot-requires : tie.Need-dot-requires Inv-loop μ-loop
@@ -128,7 +126,7 @@ mul-rows c =
     omega (arith, start a .pre .1 .1 .1 .1 .most)
 
 slice-read-rows : tie.Need-slice-read-rows Inv-loop μ-loop
-slice-read-rows c = omega (arith, c .before .before .before .before .before .before .before .loop .inv .long)
+slice-read-rows c = omega (arith, c .before .before .before .before .before .before .before .loop .inv .adding .long)
 
 add-rows : tie.Need-add-rows Inv-loop μ-loop
 add-rows c =
@@ -138,25 +136,25 @@ add-rows c =
     omega (
       arith,
       through-is (c .before),
-      row-first _ _ _ _ _ _ _ _ _ _ (a .loop .rows) (a .loop .before) (a .loop .i) r,
+      row-due _ _ (r .adding),
       s .pre .1 .1 .1 .1 .room (a .loop .i) (omega arith),
       s .pre .1 .0,
       volume-most (s .args .tenths) (s .args .rain .now) (s .pre .0) (raining a) (s .args .step) (s .args .peak) (timing a) (s .args .area) (a .loop .i + 1),
     )
 
 slice-write-rows : tie.Need-slice-write-rows Inv-loop μ-loop
-slice-write-rows c = omega (arith, c .before .before .before .before .before .before .before .loop .inv .long)
+slice-write-rows c = omega (arith, c .before .before .before .before .before .before .before .loop .inv .adding .long)
 
 again : tie.Need-loop-again Inv-loop μ-loop
 again c =
     let a = c .before .before .before .before .before .before .before in
-    adding-turn _ _ _ _ _ _ _ _ _ _ (a .loop .rows) (a .loop .before) (a .loop .i) (a .loop .inv) (c .before .volume .result) (omega arith) (through-is (c .before))
+    working-turn _ _ _ _ _ _ _ _ _ _ (a .loop .rows) (a .loop .before) (a .loop .i) (c .before .volume .result) (a .loop .inv) (omega arith) (through-is (c .before))
 
 same-length : tie.Need-same-length Inv-loop μ-loop
-same-length c = c .before .loop .inv .long
+same-length c = c .before .loop .inv .adding .long
 
 returns : tie.Need-returns Inv-loop μ-loop
-returns c = adding-end _ _ _ _ _ _ _ _ _ _ (c .before .loop .rows) (c .before .loop .before) (c .before .loop .i) (c .before .loop .inv) (omega (arith, c .before .loop .inv .long))
+returns c = adding-end _ _ (c .before .loop .inv .adding) (omega (arith, c .before .loop .inv .adding .long))
 
 pub add-parts-spec : {M : Type 1} → statement M
 add-parts-spec =

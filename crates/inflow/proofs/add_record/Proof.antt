@@ -2,10 +2,10 @@
 use mathlib.Core.Path.{_≡_, ap, _∙_}
 use Prim.Native.Nat.{ℕ}
 use borrow.Author.Needs.{needs}
+use Rattle.laws.specs.Listed.{plus}
 use Rattle.curve.specs.declared.Ground.{Ground}
 use Rattle.curve.proofs.Mean.{composite-ok}
 use Rattle.hydrograph.specs.InflowRows.{part}
-use Rattle.hydrograph.specs.Needs.{plus}
 use Rattle.subarea.specs.Records.{patches, areaOf, curveTenths}
 use Rattle.subarea.proofs.Subareas.{patches-fit}
 use Rattle.inflow.proofs.add_record.Statement.{statement}

@@ -5,11 +5,12 @@ use Prim.Native.Nat.{ℕ, _-_, _*_, _≤_}
 use native.Mathlib.Omega.{arith}
 use lib.ListN.{length}
 use Rattle.laws.proofs.Sums.{sum-term}
-use Rattle.hydrograph.specs.Needs.{plus}
+use Rattle.laws.specs.Listed.{plus, rowsFrom}
+use Rattle.laws.proofs.Listed.{rows-length, added-none, added-more}
 use Rattle.subarea.specs.Records.{width, recordsIn, recordAt, areaOf}
-use Rattle.inflow.specs.Inflow.{partOf, rowsFrom}
+use Rattle.inflow.specs.Inflow.{partOf}
 use Rattle.subarea.proofs.Subareas.{part-is}
-use Rattle.inflow.proofs.Inflows.{inflowTo, inflow-none, inflow-more, inflow-room, rows-length}
+use Rattle.inflow.proofs.Inflows.{inflowTo, inflow-room}
 use Rattle.inflow.proofs.add_records.Statement.{statement}
 use Rattle.inflow.proofs.add_records.Tie as tie
 
@@ -22,7 +23,7 @@ abbrev μ-loop : tie.MeasureT-loop
 loop-holds : tie.Need-loop-holds Inv-loop μ-loop
 loop-holds c =
     let s = c .before .before .before in
-    (omega arith, s .pre .1 .1 .1 ∙ sym (inflow-none (s .args .setup) (s .args .rain .now) (s .args .subareas .now) (length (s .args .rows .now))))
+    (omega arith, s .pre .1 .1 .1 ∙ sym (added-none (λ j. partOf (s .args .setup) (s .args .rain .now) (recordAt (s .args .subareas .now) j)) (length (s .args .rows .now))))
 
 add-record-requires : tie.Need-add-record-requires Inv-loop μ-loop
 add-record-requires c κs =
@@ -43,7 +44,7 @@ again c =
       c .before .before .add-record .ensures
           ∙ ap (λ (r : List ℕ). plus (partOf (s .args .setup) (s .args .rain .now) r) 1 (c .before .before .before .before .before .before .loop .rows)) own
           ∙ ap (plus (partOf (s .args .setup) (s .args .rain .now) (recordAt l i)) 1) (c .before .before .before .before .before .before .loop .inv .1)
-          ∙ inflow-more (s .args .setup) (s .args .rain .now) l i (length (s .args .rows .now)),
+          ∙ added-more (λ j. partOf (s .args .setup) (s .args .rain .now) (recordAt l j)) i (length (s .args .rows .now)),
     )
 
 returns : tie.Need-returns Inv-loop μ-loop

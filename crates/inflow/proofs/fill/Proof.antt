@@ -4,8 +4,9 @@ use Prim.Native.Nat.{ℕ}
 use native.Mathlib.Omega.{arith}
 use borrow.Author.Needs.{needs}
 use lib.ListN.{length}
-use Rattle.inflow.specs.Inflow.{rowsFrom, inflowRows}
-use Rattle.inflow.proofs.Inflows.{rows-length}
+use Rattle.laws.specs.Listed.{rowsFrom}
+use Rattle.laws.proofs.Listed.{rows-length}
+use Rattle.inflow.specs.Inflow.{inflowRows}
 use Rattle.inflow.proofs.fill.Statement.{statement}
 use Rattle.inflow.proofs.fill.Tie as tie
 

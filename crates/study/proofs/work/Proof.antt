@@ -7,13 +7,14 @@ use borrow.Author.Needs.{needs}
 use lib.ListN.{length, length-take, length-append}
 use lib.Seq.{length-take-le}
 use Rattle.laws.specs.Limits.{mostRows}
+use Rattle.laws.proofs.Listed.{rows-length}
 use Rattle.rows.specs.Needs.{InflowOk}
 use Rattle.checks.specs.Site.{rowsNow}
 use Rattle.study.specs.Study.{overCheck, routed}
 use Rattle.inflow.specs.Inflow.{inflowAt, inflowRows}
 use Rattle.study.specs.Needs.{overAnswer, RowsLent}
 use Rattle.refusals.specs.Refusals.{after}
-use Rattle.inflow.proofs.Inflows.{rows-length, inflow-ok}
+use Rattle.inflow.proofs.Inflows.{inflow-ok}
 use Rattle.study.proofs.Fronts.{front, front-has, front-most}
 use Rattle.study.proofs.work.Statement.{statement}
 use Rattle.study.proofs.work.Tie as tie

@@ -1,15 +1,15 @@
--- `inflow::clear` meets its contract. Assumes nothing.
+-- `laws::clear` meets its contract. Assumes nothing.
 use mathlib.Core.Path.{_≡_, refl, sym, ap, _∙_}
 use mathlib.Core.List.{List, _++_}
 use Prim.Native.Nat.{ℕ, _+_, _-_, _≤_}
 use native.Mathlib.Omega.{arith}
 use borrow.Author.Needs.{needs}
 use lib.ListN.{length, take, length-set}
+use Rattle.laws.specs.Listed.{rowsFrom}
 use Rattle.laws.proofs.Fill.{fill-turn, fill-end}
-use Rattle.inflow.specs.Inflow.{rowsFrom}
-use Rattle.inflow.proofs.Inflows.{zeros-one, zeros-none}
-use Rattle.inflow.proofs.clear.Statement.{statement}
-use Rattle.inflow.proofs.clear.Tie as tie
+use Rattle.laws.proofs.Listed.{zeros-one, zeros-none}
+use Rattle.laws.proofs.clear.Statement.{statement}
+use Rattle.laws.proofs.clear.Tie as tie
 
 abbrev Inv-loop : tie.InvT-loop
 Inv-loop rows₀ i₀ rows i =
