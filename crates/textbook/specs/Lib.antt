@@ -1,0 +1,2 @@
+pub mod Textbook
+pub mod Needs
