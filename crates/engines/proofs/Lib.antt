@@ -1,0 +1,3 @@
+pub mod Differing
+pub mod EnginesAgree
+pub mod Answers
