@@ -4,7 +4,6 @@ use refusals::Refusal;
 use subarea::Setup;
 ghost use mathlib.Core.Path.{_≡_};
 ghost use Prim.Native.Nat.{min};
-ghost use lib.ListN.{length};
 ghost use Rattle.checks.specs.Site.{basin, found};
 ghost use Rattle.inflow.specs.Inflow.{inflowAfter};
 ghost use Rattle.textbook.specs.Textbook.{textbookAfter};

@@ -3,15 +3,14 @@ use mathlib.Core.Path.{_≡_, refl, ap, _∙_}
 use mathlib.Core.List.{List}
 use Prim.Native.Nat.{ℕ, zero, suc, _+_, _-_, _*_, _/_, _≤_, _<_, min}
 use native.Mathlib.Omega.{arith}
-use lib.ListN.{length}
 use Rattle.laws.specs.Sum.{sumFrom1}
 use Rattle.laws.proofs.Sums.{sum-same}
 use Rattle.laws.proofs.Laying.{laid-through}
 use Rattle.curve.specs.Needs.{CurveOk}
-use Rattle.hydrograph.specs.InflowRows.{weight, weights, totalWeight, runoffAt, term, depthReleased, volumeOf, part}
-use Rattle.hydrograph.specs.Needs.{RainOk}
-use Rattle.hydrograph.proofs.Released.{runoff-rises, runoff-own}
-use Rattle.textbook.specs.Textbook.{rainSteps, runoffOf, added, laid, depthLaid, partLaid}
+use Rattle.hydrograph.specs.InflowRows.{weight, weights, totalWeight, runoffAt, term, depthReleased, part}
+use Rattle.hydrograph.specs.Needs.{TimingOk, RainOk}
+use Rattle.hydrograph.proofs.Released.{runoff-rises, runoff-own, volume-rises}
+use Rattle.textbook.specs.Textbook.{rainSteps, runoffOf, added, laid, depthLaid, volumeLaid, partLaid}
 
 -- the runoff added in a rain step, from the runoffs of its two entries
 pub added-is : (c : ℕ) (rain : List ℕ) (t through before : ℕ) → 1 ≤ t → through ≡ runoffOf c rain t → before ≡ runoffOf c rain (t - 1) → through - before ≡ added c rain (t - 1 + 1)
@@ -49,10 +48,14 @@ module _ (c : ℕ) (rain : List ℕ) (curve : CurveOk c) (ok : RainOk rain) wher
         ∙ sum-same (λ j. weight Tp D (j + 1) * runoffOf c rain (min (k + 1 - (j + 1)) (rainSteps rain))) (λ j. term c Tp D rain k (j + 1)) (weights Tp D)
         (λ j l. ap (λ (z : ℕ). weight Tp D (j + 1) * z) (runoff-is (k + 1 - (j + 1))))
 
-    -- so are the depth through a row
+    -- so is the depth through a row
     pub depth-agrees : (k : ℕ) → depthLaid c Tp D rain k ≡ depthReleased c Tp D rain k
     unfolding depthLaid depthReleased
     depth-agrees k = ap (λ (z : ℕ). z / totalWeight Tp D) (sums-agree k)
+
+    -- which never falls, so that no part is below 0
+    pub laid-rises : TimingOk D Tp → (A a b : ℕ) → a ≤ b → volumeLaid c A Tp D rain a ≤ volumeLaid c A Tp D rain b
+    laid-rises timing A a b l = rw (depth-agrees a, depth-agrees b) (volume-rises c rain curve ok D Tp timing A a b l)
 
     -- and a subarea's part of it
     pub part-agrees : (A k : ℕ) → partLaid c A Tp D rain k ≡ part c A Tp D rain k

@@ -1,13 +1,12 @@
 -- Laying pieces into rows: how much a row has at most, and what the lists that the code fills come to. Assumes nothing.
 use mathlib.Core.Path.{_≡_, sym, ap, _∙_}
 use mathlib.Core.List.{List}
-use Prim.Native.Nat.{ℕ, _+_, _-_, _*_, _/_, _≤_, _<_}
+use Prim.Native.Nat.{ℕ, _+_, _-_, _*_, _≤_, _<_}
 use native.Mathlib.Nat.{mul-le-mul, mul-le-mul-left, zero-div}
 use native.Mathlib.Omega.{arith}
 use lib.Dec.{leb}
 use lib.ListN.{length, getD, take, replicate, getD-replicate}
 use lib.Seq.{getD-take, length-take-le}
-use Rattle.laws.specs.Pick.{pick}
 use Rattle.laws.specs.Sum.{sumTo, sumFrom1}
 use Rattle.laws.specs.Filled.{Filled}
 use Rattle.laws.specs.Listed.{plus}
@@ -18,7 +17,7 @@ use Rattle.laws.proofs.Sums.{sum-same, sum-most, sum-upto, sum-swap}
 use Rattle.laws.proofs.Listed.{plus-length, plus-at}
 use Rattle.laws.proofs.Laying.{row-most}
 use Rattle.curve.specs.Needs.{CurveOk}
-use Rattle.hydrograph.specs.InflowRows.{weight, weights, totalWeight, term, volumeOf}
+use Rattle.hydrograph.specs.InflowRows.{weight, weights, totalWeight, volumeOf}
 use Rattle.hydrograph.specs.Needs.{mostDepth, TimingOk, RainOk}
 use Rattle.hydrograph.proofs.Weights.{weight-most, in-time, total-some, total-to, weights-most}
 use Rattle.hydrograph.proofs.Released.{runoff-own, runoff-most, sum-bound}

@@ -1,6 +1,6 @@
 -- What contracts ask and say of lists of runoffs added and of what is laid, and proofs use; no rule is here.
 use mathlib.Core.List.{List}
-use Prim.Native.Nat.{ℕ, _+_, _-_, _*_, _/_, _≤_, _<_}
+use Prim.Native.Nat.{ℕ, _-_, _*_, _/_, _≤_, _<_}
 use lib.ListN.{length, getD}
 use Rattle.laws.specs.Limits.{mostRows, mostWeights}
 use Rattle.laws.specs.Sum.{sumTo, sumFrom1}

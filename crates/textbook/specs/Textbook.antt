@@ -23,7 +23,7 @@ rainSteps rain = length rain - 1
 abbrev pub runoffOf : ℕ → List ℕ → ℕ → ℕ
 runoffOf c rain t = depth c (getD rain t 0)
 
--- the runoff added in rain step t, from 1: the difference of two whole runoffs (exact: `runoff-rises` of hydrograph)
+-- the runoff added in rain step t, from 1: the difference of two whole runoffs (exact: `runoff-up`)
 unfoldable pub added : ℕ → List ℕ → ℕ → ℕ
 added c rain t = runoffOf c rain t - runoffOf c rain (t - 1)
 

@@ -1,11 +1,10 @@
 -- `textbook::fill_added` meets its contract. Assumes nothing.
-use mathlib.Core.Path.{_≡_, refl, sym, ap, _∙_}
+use mathlib.Core.Path.{_≡_, sym, ap, _∙_}
 use Prim.Native.Nat.{ℕ, _+_, _-_, _≤_}
 use native.Mathlib.Omega.{arith}
 use lib.ListN.{length, length-set}
 use Rattle.laws.specs.Filled.{Filled}
 use Rattle.laws.proofs.Fill.{filled-none, filled-more}
-use Rattle.runoff.specs.RunoffDepth.{depth}
 use Rattle.textbook.specs.Textbook.{runoffOf, added}
 use Rattle.textbook.proofs.Laid.{added-is, runoff-start, runoff-up}
 use Rattle.textbook.proofs.fill_added.Statement.{statement}
