@@ -26,8 +26,9 @@ extern "C" {
 /* ---- What is lent */
 
 /* The number of this interface, raised with each change of a layout, of a signature, or of the rows that a study
-   leaves. bt_interface gives that of the engine that is linked: where the two differ, the host was built for another one
-   and must not call it. A host that keeps rows keeps the number beside them: rows of a lower one may be of another rule,
+   leaves. A function more does not raise it: an engine that lacks one does not link with a host that calls it.
+   bt_interface gives that of the engine that is linked: where the two differ, the host was built for another one and
+   must not call it. A host that keeps rows keeps the number beside them: rows of a lower one may be of another rule,
    which nothing in them shows (docs/HOST.md, 'Rows kept from before a request'). */
 #define BT_INTERFACE 5
 
@@ -193,6 +194,11 @@ enum {
     BT_VALUES_LENGTH
 };
 
+/* The answer of inflow rows alone: BT_REFUSAL and BT_PLACE, two zeros when done. */
+enum {
+    BT_INFLOW_ANSWER_LENGTH = BT_PLACE + 1
+};
+
 /* Refusal numbers, and after the semicolon what the place beside each of them is. Subareas, rows and pond rows count
    from 1, rain entries from 0. Each number is given for the first place that has the fault. They are asked in the order
    1, 2, 20, 3, 19, 4, 5 and on; docs/SCOPE.md has it for each call. */
@@ -274,6 +280,26 @@ uint64_t bt_mark(uint64_t step, uint64_t first, const uint64_t *pond, size_t pon
                  size_t inflow_len, const uint64_t *outflow, size_t outflow_len, const uint64_t *storage,
                  size_t storage_len, uint64_t row, uint64_t answer[BT_MARK_ANSWER_LENGTH],
                  double values[BT_VALUES_LENGTH]);
+
+/*
+ * The inflow rows alone, as a study works them, without a pond. They are refused as a study is by 1 to 11, 19 and 20,
+ * and by no other number: where a study is refused by 12, 13 or 14 they are done. A done call fills inflow with the
+ * rows that a study leaves there; a refused one leaves it as it was. Of outflow and storage only the lengths are read,
+ * and neither is written.
+ *
+ * The parameters are those of bt_study.
+ */
+uint64_t bt_inflow(uint64_t step, uint64_t first, uint64_t rule, const uint64_t *rain, size_t rain_len,
+                   const uint64_t *subareas, size_t subareas_len, uint64_t *inflow, size_t inflow_len,
+                   const uint64_t *outflow, size_t outflow_len, const uint64_t *storage, size_t storage_len,
+                   uint64_t answer[BT_INFLOW_ANSWER_LENGTH]);
+
+/* The same by a second engine, in the textbook's way: the runoff added in each rain step, times each weight, is laid
+   into the rows. It is there to be held beside the first. */
+uint64_t bt_textbook(uint64_t step, uint64_t first, uint64_t rule, const uint64_t *rain, size_t rain_len,
+                     const uint64_t *subareas, size_t subareas_len, uint64_t *inflow, size_t inflow_len,
+                     const uint64_t *outflow, size_t outflow_len, const uint64_t *storage, size_t storage_len,
+                     uint64_t answer[BT_INFLOW_ANSWER_LENGTH]);
 
 #ifdef __cplusplus
 }

@@ -37,6 +37,16 @@ void lend_study(struct call *c, const struct site *s, bool tight)
     lend(&c->answer, NULL, BT_ANSWER_LENGTH, tight);
 }
 
+void lend_inflow(struct call *c, const struct site *s, bool tight)
+{
+    lend(&c->rain, s->rain.at, s->rain.len, tight);
+    lend(&c->subareas, s->subareas.at, s->subareas.len, tight);
+    lend(&c->inflow, NULL, s->inflow, tight);
+    lend_shut(&c->outflow, s->outflow);
+    lend_shut(&c->storage, s->storage);
+    lend(&c->answer, NULL, BT_INFLOW_ANSWER_LENGTH, tight);
+}
+
 void lend_edit(struct call *c, const struct edit *e, bool tight)
 {
     lend_inputs(c, &e->site, tight);
@@ -87,6 +97,36 @@ void study_due(struct result *r, const struct site *s)
     r->gave = reference_study(s->step, s->first, s->rule, s->rain.at, s->rain.len, s->subareas.at, s->subareas.len,
                               s->pond.at, s->pond.len, r->rows.inflow, s->inflow, r->rows.outflow, s->outflow,
                               r->rows.storage, s->storage, r->answer);
+}
+
+void engine_inflow(struct call *c, const struct site *s)
+{
+    c->gave = bt_inflow(s->step, s->first, s->rule, c->rain.at, c->rain.len, c->subareas.at, c->subareas.len,
+                        c->inflow.at, c->inflow.len, c->outflow.at, c->outflow.len, c->storage.at, c->storage.len,
+                        c->answer.at);
+}
+
+void engine_textbook(struct call *c, const struct site *s)
+{
+    c->gave = bt_textbook(s->step, s->first, s->rule, c->rain.at, c->rain.len, c->subareas.at, c->subareas.len,
+                          c->inflow.at, c->inflow.len, c->outflow.at, c->outflow.len, c->storage.at, c->storage.len,
+                          c->answer.at);
+}
+
+/* A study that is refused by 12, 13 or 14 is refused for its pond, and after all else was found good. */
+static bool refused_for_pond(const struct result *study)
+{
+    return BT_REFUSED_POND <= study->gave && study->gave <= BT_REFUSED_FULL;
+}
+
+void inflow_due(struct result *r, const struct site *s, const struct result *study)
+{
+    bool done = study->gave == 0 || refused_for_pond(study);
+    r->gave = r->answer[BT_REFUSAL] = done ? 0 : study->gave;
+    r->answer[BT_PLACE] = done ? 0 : study->answer[BT_PLACE];
+    if (done)
+        reference_textbook(s->step, s->rain.at, s->rain.len, s->subareas.at, s->subareas.len, r->rows.inflow,
+                           s->inflow);
 }
 
 void engine_edit(struct call *c, const struct edit *e)
@@ -146,7 +186,7 @@ void mark_due(struct result *r, const struct mark *m)
 
 /* ---- What may be wrong with any call */
 
-/* Lists that every call has. */
+/* Lists that every call has but those of inflow rows alone. */
 static bool shared_guards_hold(const struct call *c)
 {
     return guards_hold(&c->pond) && guards_hold(&c->inflow) && guards_hold(&c->outflow) && guards_hold(&c->storage) &&
@@ -160,6 +200,11 @@ static const char *inputs_fault(const struct call *c, const struct site *s)
     if (!holds(&c->rain, s->rain.at) || !holds(&c->subareas, s->subareas.at) || !holds(&c->pond, s->pond.at))
         return "an input was changed";
     return NULL;
+}
+
+static bool same_words(const u64 *a, const u64 *b, size_t count)
+{
+    return memcmp(a, b, count * sizeof *a) == 0;
 }
 
 static const char *rows_fault(const struct call *c, const struct columns *due)
@@ -206,12 +251,49 @@ const char *study_fault(const struct call *c, const struct site *s, const struct
     return due->gave != 0 || balanced(c, s->step / 2) ? NULL : "the rows do not balance";
 }
 
-/* ---- An edit */
+/* ---- The inflow rows alone */
 
-static bool same_words(const u64 *a, const u64 *b, size_t count)
+const char *inflow_fault(const struct call *c, const struct site *s, const struct result *due)
 {
-    return memcmp(a, b, count * sizeof *a) == 0;
+    if (!guards_hold(&c->rain) || !guards_hold(&c->subareas) || !guards_hold(&c->inflow) || !guards_hold(&c->answer))
+        return "written outside a list";
+    if (!holds(&c->rain, s->rain.at) || !holds(&c->subareas, s->subareas.at))
+        return "an input was changed";
+    if (c->gave != due->gave)
+        return "the number given back differs";
+    if (!holds(&c->answer, due->answer))
+        return "the answer differs";
+    if (due->gave != 0)
+        return holds_paint(&c->inflow) ? NULL : "refused, but a row was written";
+    return holds(&c->inflow, due->rows.inflow) ? NULL : "inflow rows differ";
 }
+
+/* The inflow rows by document 01's sums, where they are done. */
+static void sum_parts(const struct site *s, u64 *rows)
+{
+    static u64 parts[ROOM];
+    memset(rows, 0, s->inflow * sizeof *rows);
+    for (size_t i = 0; i < s->subareas.len; i += BT_WIDTH) {
+        reference_parts(s->step, s->rain.at, s->rain.len, s->subareas.at + i, parts, s->inflow);
+        for (size_t k = 0; k < s->inflow; k++)
+            rows[k] += parts[k];
+    }
+}
+
+const char *ways_fault(const struct site *s, const struct result *study, const struct result *due)
+{
+    static u64 summed[ROOM];
+    const u64 *rows = study->rows.inflow;
+    if (due->gave != 0)
+        return NULL;
+    if (refused_for_pond(study)) {
+        sum_parts(s, summed);
+        rows = summed;
+    }
+    return same_words(due->rows.inflow, rows, s->inflow) ? NULL : "the reference's two ways to the inflow rows differ";
+}
+
+/* ---- An edit */
 
 /* Of the engine's answer and rows alone: the first changed row is the first whose inflow differs, and the rows before
    it are word by word as they were found; all of them where none is changed. */

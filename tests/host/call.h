@@ -23,7 +23,7 @@ void call_open(struct call *c);
 
 /* ---- A study of a site */
 
-/* 'tight': each list ends at the unreadable page, with no guard words after it. */
+/* 'tight': each list ends at the unreadable pages, with no guard words after it. */
 void lend_study(struct call *c, const struct site *s, bool tight);
 void engine_study(struct call *c, const struct site *s);
 void engine_study_records(struct call *c, const struct site *s); /* the list is whole records */
@@ -32,6 +32,21 @@ void study_due(struct result *r, const struct site *s);
 
 /* What is wrong with a call that was made, or null. */
 const char *study_fault(const struct call *c, const struct site *s, const struct result *due);
+
+/* ---- The inflow rows of a site alone. Of outflow and storage the lengths are lent, and nothing that can be read. */
+
+void lend_inflow(struct call *c, const struct site *s, bool tight);
+void engine_inflow(struct call *c, const struct site *s);
+void engine_textbook(struct call *c, const struct site *s);
+
+/* The refusal is that of a study of the site, which is given, but for 12, 13 and 14; the rows are worked in the
+   textbook's way. */
+void inflow_due(struct result *r, const struct site *s, const struct result *study);
+
+const char *inflow_fault(const struct call *c, const struct site *s, const struct result *due);
+
+/* The same of what is due itself: its rows beside the study's. */
+const char *ways_fault(const struct site *s, const struct result *study, const struct result *due);
 
 /* ---- An edit */
 

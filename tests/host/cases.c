@@ -924,6 +924,15 @@ static void every_fault_from_one_on(struct site *s, struct prng *r)
 
 /* ---- Few rows and many */
 
+/* Rain that rises in each of n steps. */
+static void rain_throughout(struct site *s, size_t n)
+{
+    u64 most = n < 8 ? BT_MOST_RISE * n : 30000;
+    s->rain.len = n + 1;
+    for (size_t t = 0; t <= n; t++)
+        s->rain.at[t] = most * t / n;
+}
+
 static void row_counts(struct site *s, struct prng *r)
 {
     static const size_t rows[] = { 1, 2, 3, 1999, 2000 };
@@ -931,16 +940,49 @@ static void row_counts(struct site *s, struct prng *r)
         size_t m = rows[i];
         const size_t rain_steps[] = { 1, (m + 1) / 2, m - (m > 1), m };
         for (size_t j = 0; j < COUNT(rain_steps); j++) {
-            size_t n = rain_steps[j];
             plain_site(s, r, 2, 9);
             set_rows(s, m);
-            s->rain.len = n + 1;
-            u64 most = n < 8 ? BT_MOST_RISE * n : 30000;
-            for (size_t t = 1; t <= n; t++)
-                s->rain.at[t] = most * t / n;
+            rain_throughout(s, rain_steps[j]);
             take_site("few rows and many", s);
         }
     }
+}
+
+/* The rows end with the rain, beside the weights, and about the row that the last weight of the last rain step falls
+   into. */
+static void rows_beside_pieces(struct site *s, size_t n, size_t weights)
+{
+    const size_t last = n + weights - 1, rows[] = { n, weights - 1, weights, weights + 1, last - 1, last, last + 1 };
+    rain_throughout(s, n);
+    for (size_t i = 0; i < COUNT(rows); i++) {
+        set_rows(s, rows[i]);
+        if (n <= rows[i])
+            take_study("rain and rows beside the weights", s);
+    }
+}
+
+static void rain_beside_weights(struct site *s, struct prng *r)
+{
+    static const u64 steps[] = { 60, 120, 212, 300, 900, 3600 };
+    for (size_t i = 0; i < COUNT(steps); i++) {
+        lone_site(s);
+        s->step = steps[i];
+        u64 least = reference_peak(s->step, 360), most = reference_peak(s->step, 36000);
+        u64 peak = between(r, least < s->step ? s->step : least, most < 20 * s->step ? most : 20 * s->step);
+        const size_t weights = 5 * peak / s->step;
+        const size_t rain_steps[] = { 1, 2, weights - 1, weights, weights + 1, 3 * weights };
+        set_concentration(record_at(s, 0), concentration_of(s->step, peak));
+        for (size_t j = 0; j < COUNT(rain_steps); j++)
+            rows_beside_pieces(s, rain_steps[j], weights);
+    }
+}
+
+/* As many rows, rain entries, subareas and weights as there may be. */
+static void greatest_size(struct site *s, struct prng *r)
+{
+    large_site(s, r);
+    rain_throughout(s, BT_MOST_ROWS);
+    take_study("the greatest size", s);
 }
 
 /* ---- All of them */
@@ -955,7 +997,7 @@ void chosen_cases(u64 seed)
         row_lengths, rain_lengths, subarea_lengths, pond_lengths, rain_entries, total_areas, concentrations, peaks,
         weights_at_random, drizzle, drizzle_on_means, runoffs_at_random, pond_limits, greatest_pond, pond_storages, full_ponds,
         close_lines, two_faults, every_fault_from_one_on, row_counts, rain_rises, kinds, sheet_places, rules,
-        sheet_lengths, two_sheets, lengths_beside,
+        sheet_lengths, two_sheets, lengths_beside, rain_beside_weights, greatest_size,
     };
     for (size_t i = 0; i < COUNT(plain); i++) {
         s = (struct site){ 0 };

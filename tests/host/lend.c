@@ -26,9 +26,9 @@ static size_t map_bytes(void)
 
 void lend_open(struct lent_list *l)
 {
-    size_t bytes = map_bytes(), page = (size_t)sysconf(_SC_PAGESIZE);
-    char *base = mmap(NULL, bytes + page, PROT_READ | PROT_WRITE, MAP_PRIVATE | MAP_ANONYMOUS, -1, 0);
-    if (base == MAP_FAILED || mprotect(base + bytes, page, PROT_NONE) != 0) {
+    size_t bytes = map_bytes();
+    char *base = mmap(NULL, 2 * bytes, PROT_READ | PROT_WRITE, MAP_PRIVATE | MAP_ANONYMOUS, -1, 0);
+    if (base == MAP_FAILED || mprotect(base + bytes, bytes, PROT_NONE) != 0) {
         perror("host: memory for the lists");
         exit(2);
     }
@@ -46,6 +46,13 @@ void lend(struct lent_list *l, const u64 *from, size_t len, bool tight)
         l->at[len + i] = guard(i);
     for (size_t i = 0; i < len; i++)
         l->at[i] = from ? from[i] : paint(i);
+}
+
+void lend_shut(struct lent_list *l, size_t len)
+{
+    l->len = len;
+    l->after = 0;
+    l->at = l->base + map_bytes() / sizeof(u64);
 }
 
 bool guards_hold(const struct lent_list *l)

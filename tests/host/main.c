@@ -28,6 +28,7 @@
 
 _Static_assert(BT_ANSWER_LENGTH == 12 && BT_EDIT_ANSWER_LENGTH == 13 && BT_CHANGES_LENGTH == 2, "answers");
 _Static_assert(BT_MARK_ANSWER_LENGTH == 3 && BT_VALUES_LENGTH == 5, "a mark's answer");
+_Static_assert(BT_INFLOW_ANSWER_LENGTH == 2 && BT_REFUSAL == 0 && BT_PLACE == 1, "the answer of inflow rows alone");
 _Static_assert(sizeof(bt_subarea) == BT_WIDTH * sizeof(u64), "a record");
 _Static_assert(offsetof(bt_subarea, patch_count) == BT_PATCH_COUNT * sizeof(u64), "patch count");
 _Static_assert(offsetof(bt_subarea, patches) == BT_PATCHES * sizeof(u64), "patches");

@@ -9,7 +9,6 @@
 enum { UNPAVED = 1, PAVED, GIVEN, SHEET, CHANNEL };
 
 enum {
-    MOST_WEIGHTS = 512,
     MOST_RAIN = 30000,
     MOST_RISE = 4000,
     MOST_AREA = 200000,

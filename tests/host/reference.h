@@ -1,7 +1,7 @@
 /*
- * Document 01 (docs/SCOPE.md) once more, in plain C: studies, edits and marks worked from the text of the rules and
- * from nothing of the engine. Slow and plain on purpose. Whole numbers only; sums and products are 128 bits wide, or as
- * long as the powers of sheet and channel flow need them (big.h).
+ * Document 01 (docs/SCOPE.md) once more, in plain C: studies, edits, marks and inflow rows worked from the text of the
+ * rules and from nothing of the engine. Slow and plain on purpose. Whole numbers only; sums and products are 128 bits
+ * wide, or as long as the powers of sheet and channel flow need them (big.h).
  */
 #ifndef REFERENCE_H
 #define REFERENCE_H
@@ -51,6 +51,10 @@ u64 reference_mark(u64 step, u64 first, const u64 *pond, size_t pond_len, size_t
 
 /* A record's part of each of m rows' inflow volume. It and the rain are within document 01's limits. */
 void reference_parts(u64 step, const u64 *rain, size_t rain_len, const u64 *record, u64 *parts, size_t m);
+
+/* The inflow of each of m rows in the textbook's way. The rain and the subareas are within document 01's limits. */
+void reference_textbook(u64 step, const u64 *rain, size_t rain_len, const u64 *subareas, size_t subareas_len, u64 *rows,
+                        size_t m);
 
 /* The first of 6 to 11, if any, that refuses a list of 1 to 16 records. The step and the sheet rule pass 2 and 20. */
 struct refusal reference_list_refusal(u64 step, u64 rule, const u64 *subareas, size_t subareas_len);

@@ -58,6 +58,14 @@ void print_study(const struct call *c, const struct site *s, const struct result
         print_rows(c, &due->rows, whole);
 }
 
+void print_inflow(const struct call *c, const struct site *s, const struct result *due, bool whole)
+{
+    print_site(s);
+    print_answers(c, due);
+    if (c->gave == 0 && due->gave == 0)
+        print_column("inflow", &c->inflow, due->rows.inflow, whole);
+}
+
 static void print_found(const struct site *s, const struct columns *found)
 {
     print_list("inflow as found", found->inflow, s->inflow, 10);

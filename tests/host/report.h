@@ -6,6 +6,7 @@
 
 /* 'whole': every row, and not only those from the first that differs on. */
 void print_study(const struct call *c, const struct site *s, const struct result *due, bool whole);
+void print_inflow(const struct call *c, const struct site *s, const struct result *due, bool whole);
 void print_edit(const struct call *c, const struct edit *e, const struct result *due, bool whole);
 void print_mark(const struct call *c, const struct mark *m, const struct result *due);
 

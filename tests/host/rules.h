@@ -19,7 +19,8 @@ enum {
 
 enum {
     MOST_SUBAREAS = 16,
-    MOST_ROWS = 2000
+    MOST_ROWS = 2000,
+    MOST_WEIGHTS = 512
 };
 
 /* Everything that is lent to a study and only read, with the lengths of the row lists. */

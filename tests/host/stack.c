@@ -72,6 +72,11 @@ static void lend_for_study(void)
     lend_study(&call, &edit.site, false);
 }
 
+static void lend_for_inflow(void)
+{
+    lend_inflow(&call, &edit.site, false);
+}
+
 static void lend_for_edit(void)
 {
     lend_edit(&call, &edit, false);
@@ -90,6 +95,16 @@ static void make_study(void)
 static void make_study_records(void)
 {
     engine_study_records(&call, &edit.site);
+}
+
+static void make_inflow(void)
+{
+    engine_inflow(&call, &edit.site);
+}
+
+static void make_textbook(void)
+{
+    engine_textbook(&call, &edit.site);
 }
 
 static void make_edit(void)
@@ -129,6 +144,8 @@ void print_stack(u64 seed)
         { "an edit", lend_for_edit, make_edit },
         { "an edit of records", lend_for_edit, make_edit_records },
         { "a mark", lend_for_mark, make_mark },
+        { "inflow alone", lend_for_inflow, make_inflow },
+        { "inflow alone by the textbook", lend_for_inflow, make_textbook },
     };
     for (size_t c = 0; c < sizeof calls / sizeof *calls; c++) {
         size_t most = 0;

@@ -76,6 +76,35 @@ static const char *try_study(const struct site *s, size_t entry)
     return study_fault(&call, s, &due);
 }
 
+/* ---- The inflow rows of a study's site */
+
+static const struct {
+    const char *by;
+    void (*make)(struct call *, const struct site *);
+} INFLOWS[] = {
+    { ", inflow alone", engine_inflow },
+    { ", inflow alone by the textbook", engine_textbook },
+};
+
+/* Both engines are held to what the reference has in the textbook's way, and that to what is due of the study. */
+static void take_inflow(const char *kind, const struct site *s)
+{
+    static struct result alone;
+    const char *fault = NULL;
+    inflow_due(&alone, s, &due);
+    count_inflow(s, &due, &alone);
+    for (size_t entry = 0; entry < COUNT(INFLOWS) && !fault; entry++) {
+        by = INFLOWS[entry].by;
+        lend_inflow(&call, s, tight());
+        INFLOWS[entry].make(&call, s);
+        fault = inflow_fault(&call, s, &alone);
+    }
+    if (!fault)
+        fault = ways_fault(s, &due, &alone);
+    if (to_print(kind, fault))
+        print_inflow(&call, s, &alone, run.only != 0);
+}
+
 const struct result *take_study(const char *kind, const struct site *s)
 {
     const char *fault = NULL;
@@ -87,6 +116,8 @@ const struct result *take_study(const char *kind, const struct site *s)
         fault = try_study(s, entry);
     if (to_print(kind, fault))
         print_study(&call, s, &due, run.only != 0);
+    if (!fault)
+        take_inflow(kind, s);
     return &due;
 }
 

@@ -1,7 +1,7 @@
 /*
  * Takes cases: each makes a call, works the same by the reference, compares the two, and is counted. A study or an edit
  * of whole records is called twice: with the flat list, and with the list of records, which is held to the same. So is
- * the plain engine of the benchmark.
+ * the plain engine of the benchmark. With a study go the inflow rows of its site alone, by both engines.
  */
 #ifndef TAKE_H
 #define TAKE_H

@@ -7,6 +7,14 @@ enum { LAST_REFUSAL = BT_REFUSED_RULE };
 
 static struct {
     u64 study[LAST_REFUSAL + 1], edit[LAST_REFUSAL + 1], mark[LAST_REFUSAL + 1]; /* by refusal number, 0 for done */
+    u64 inflow[LAST_REFUSAL + 1]; /* inflow rows alone, the same */
+    u64 longer[3];                /* of them refused with 1: inflow alone is one row longer, outflow, storage */
+    u64 pond[LAST_REFUSAL + 1];   /* of them done, by the refusal number of the study */
+    u64 rain[4];                  /* subareas of those: one rain step, fewer than the weights, as many, more */
+    u64 rows[3];                  /* fewer rows than weights, as many, more */
+    u64 last[2];                  /* the last piece within the rows, past them */
+    u64 runs[2];                  /* no runoff, some */
+    u64 whole[2];                 /* done inflow rows of less than the greatest size, of that */
     u64 full[3];                  /* studies refused with 14 at the first row, between, the last */
     u64 fresh[LAST_REFUSAL + 1];  /* edits refused for the altered list alone */
     u64 done[3];                  /* done edits: no row changed, the first on, a later one on */
@@ -74,6 +82,50 @@ void count_study(const struct site *s, const struct result *due)
     if (due->gave == BT_REFUSED_FULL)
         tally.full[place == 1 ? 0 : place < s->inflow ? 1 : 2]++;
 }
+
+/* ---- Inflow rows alone */
+
+static void count_longer(const struct site *s)
+{
+    const size_t lengths[] = { s->inflow, s->outflow, s->storage };
+    for (int i = 0; i < 3; i++) {
+        size_t one = lengths[(i + 1) % 3], two = lengths[(i + 2) % 3];
+        tally.longer[i] += one == two && lengths[i] == one + 1 && 1 <= one && one < BT_MOST_ROWS;
+    }
+}
+
+/* Gives whether it has as many weights as there may be. */
+static bool count_pieces(const struct site *s, const u64 *record)
+{
+    u64 n = s->rain.len - 1, m = s->inflow, rain = s->rain.at[n];
+    u64 weights = 5 * reference_peak(s->step, reference_concentration(record)) / s->step;
+    tally.rain[n == 1 ? 0 : n < weights ? 1 : n == weights ? 2 : 3]++;
+    tally.rows[m < weights ? 0 : m == weights ? 1 : 2]++;
+    tally.last[n + weights - 1 > m]++;
+    tally.runs[reference_runoff(reference_tenths(record), rain) != 0]++;
+    return weights == 512;
+}
+
+static void count_done_inflow(const struct site *s)
+{
+    size_t full = 0;
+    for (size_t i = 0; i < subarea_count(s); i++)
+        full += count_pieces(s, s->subareas.at + BT_WIDTH * i);
+    tally.whole[full == BT_MOST_SUBAREAS && s->inflow == BT_MOST_ROWS && s->rain.len == BT_MOST_ROWS + 1]++;
+}
+
+void count_inflow(const struct site *s, const struct result *study, const struct result *due)
+{
+    tally.inflow[due->gave]++;
+    if (due->gave == BT_REFUSED_ROWS)
+        count_longer(s);
+    if (due->gave != 0)
+        return;
+    tally.pond[study->gave]++;
+    count_done_inflow(s);
+}
+
+/* ---- Edits and marks */
 
 /* The first row that the edit changes, were it done: 0 if none. */
 static u64 would_change(const struct edit *e)
@@ -171,6 +223,11 @@ static bool ends_study(int n)
     return n <= BT_REFUSED_FULL || n == BT_REFUSED_RISE || n == BT_REFUSED_RULE;
 }
 
+static bool ends_inflow(int n)
+{
+    return ends_study(n) && (n < BT_REFUSED_POND || n > BT_REFUSED_FULL);
+}
+
 static bool ends_edit(int n)
 {
     return n != BT_REFUSED_ASKED;
@@ -184,13 +241,14 @@ static bool ends_mark(int n)
 
 static void print_ends(void)
 {
-    printf("%-10s %8s %8s %8s\n", "", "studies", "edits", "marks");
+    printf("%-10s %8s %8s %8s %8s\n", "", "studies", "inflows", "edits", "marks");
     for (int n = 0; n <= LAST_REFUSAL; n++) {
         if (n == 0)
             printf("done      ");
         else
             printf("refusal %2d", n);
         print_end(tally.study[n], ends_study(n));
+        print_end(tally.inflow[n], ends_inflow(n));
         print_end(tally.edit[n], ends_edit(n));
         print_end(tally.mark[n], ends_mark(n));
         printf("\n");
@@ -203,6 +261,17 @@ static void print_counts(const char *what, const u64 *counts, int count)
     for (int i = 0; i < count; i++)
         print_count(counts[i]);
     printf("\n");
+}
+
+static void print_inflows(void)
+{
+    print_counts("inflow rows refused with 1, inflow alone one longer, outflow, storage", tally.longer, 3);
+    print_counts("inflow rows done where the study is refused with 12, 13, 14", tally.pond + BT_REFUSED_POND, 3);
+    print_counts("their subareas, rain of one step, shorter than the weights, as long, longer", tally.rain, 4);
+    print_counts("their subareas, rows fewer than the weights, as many, more", tally.rows, 3);
+    print_counts("their subareas, the last piece in a row, past the rows", tally.last, 2);
+    print_counts("their subareas, no runoff, some", tally.runs, 2);
+    print_counts("inflow rows done of less than the greatest size, of that", tally.whole, 2);
 }
 
 static void print_edits(void)
@@ -228,6 +297,7 @@ bool print_tally(void)
     print_counts("7 by sheet rule 2 alone, of studies, of edits for the list, for the altered list", tally.too_long, 3);
     print_counts("studies of no record, of 1 to 16, of more", tally.records, 3);
     print_counts("of more, refused before 5, with 5", tally.early, 2);
+    print_inflows();
     print_edits();
     print_counts("marks: nothing, an outflow, a peak", tally.kind, 3);
     print_counts("17 of marks at the row asked, at another", tally.asked, 2);

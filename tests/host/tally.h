@@ -5,6 +5,7 @@
 #include "call.h"
 
 void count_study(const struct site *s, const struct result *due);
+void count_inflow(const struct site *s, const struct result *study, const struct result *due); /* of the site's study */
 void count_edit(const struct edit *e, const struct result *due);
 void count_mark(const struct mark *m, const struct result *due);
 

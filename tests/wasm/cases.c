@@ -109,6 +109,17 @@ static void call_study_records(void)
     print_rows();
 }
 
+/* bt_inflow or bt_textbook, which take the same. */
+static void call_inflow(const char *name, __typeof__(bt_inflow) *entry)
+{
+    u64 answer[BT_INFLOW_ANSWER_LENGTH];
+    printf("call %s\n", name);
+    printf("gave %" PRIu64 "\n", entry(lent.step, lent.first, lent.rule, LENT(rain), LENT(subareas), LENT(inflow),
+                                       LENT(outflow), LENT(storage), answer));
+    print_numbers("due", "answer", answer, BT_INFLOW_ANSWER_LENGTH);
+    print_rows();
+}
+
 static void print_edit(u64 gave, const u64 *answer, const int64_t *changes)
 {
     printf("gave %" PRIu64 "\n", gave);
@@ -152,16 +163,26 @@ static void call_mark(u64 row)
     printf("\n");
 }
 
-/* ---- Cases of one input. Those of whole records are called by the list of records, too, first. */
+/* ---- Cases of one input. Those of whole records are called by the list of records, too, first. Before a study come
+   the inflow rows of its site alone. */
 
 static bool whole_records(const struct site *s)
 {
     return s->subareas.len % BT_WIDTH == 0;
 }
 
+static void take_inflow(const struct site *s)
+{
+    lend_blank_rows(s);
+    call_inflow("bt_inflow", bt_inflow);
+    lend_blank_rows(s);
+    call_inflow("bt_textbook", bt_textbook);
+}
+
 static void take_study(const struct site *s)
 {
     lend_site(s);
+    take_inflow(s);
     if (whole_records(s)) {
         lend_blank_rows(s);
         call_study_records();

@@ -52,9 +52,8 @@ const at = (name) => lists.get(name).at;
 const lend = (name) => [at(name), BigInt(lists.get(name).length)];
 const records = () => [at("subareas"), BigInt(lists.get("subareas").length / width)];
 const rows = () => [...lend("inflow"), ...lend("outflow"), ...lend("storage")];
-const run = (subareas) => [
-    setup.step, setup.first, setup.rule, ...lend("rain"), ...subareas, ...lend("pond"), ...rows(),
-];
+const basin = (subareas) => [setup.step, setup.first, setup.rule, ...lend("rain"), ...subareas];
+const run = (subareas) => [...basin(subareas), ...lend("pond"), ...rows()];
 const change = (place) => [place, at("fresh"), at("answer"), at("changes")];
 
 const parameters = {
@@ -63,6 +62,8 @@ const parameters = {
     bt_edit: (place) => [...run(lend("subareas")), ...change(place)],
     bt_edit_records: (place) => [...run(records()), ...change(place)],
     bt_mark: (row) => [setup.step, setup.first, ...lend("pond"), ...rows(), row, at("answer"), at("values")],
+    bt_inflow: () => [...basin(lend("subareas")), ...rows(), at("answer")],
+    bt_textbook: () => [...basin(lend("subareas")), ...rows(), at("answer")],
 };
 
 let called = null; // the last call, until it is looked at
@@ -179,6 +180,8 @@ const REFUSALS = {
     bt_edit: [...upTo(17), 19, 20],
     bt_edit_records: [...upTo(17), 19, 20],
     bt_mark: [1, 2, 4, 12, 13, 17, 18],
+    bt_inflow: [...upTo(11), 19, 20],
+    bt_textbook: [...upTo(11), 19, 20],
 };
 
 // Gives whether each function ended in every way that it can.

@@ -11,6 +11,8 @@ use Rattle.answers.proofs.put_edit.Kinds as put-edit-kinds
 use Rattle.answers.proofs.put_edit.Reads as put-edit-reads
 use Rattle.answers.proofs.put_mark.Kinds as put-mark-kinds
 use Rattle.answers.proofs.put_mark.Reads as put-mark-reads
+use Rattle.answers.proofs.put_refusal.Kinds as put-refusal-kinds
+use Rattle.answers.proofs.put_refusal.Reads as put-refusal-reads
 
 pub put-study-one : OneAnswerAnd put-study-kinds.ps put-study-kinds.r {L = List ℕ} (λ κs s. now (s .1 .0)) put-study-reads.Post
 put-study-one κs a x y s t p q = (same (p .0) (q .0), same (p .1) (q .1))
@@ -20,3 +22,6 @@ put-edit-one κs a x y s t p q = (same (p .0) (q .0), λ i. (same (p .1 .0) (q .
 
 pub put-mark-one : OneAnswerAnd put-mark-kinds.ps put-mark-kinds.r {L = List ℕ × List Float} (λ κs s. (now (s .1 .0), now (s .1 .1 .0))) put-mark-reads.Post
 put-mark-one κs a x y s t p q = (same (p .0) (q .0), λ i. (same (p .1 .0) (q .1 .0) i, same (p .1 .1) (q .1 .1) i))
+
+pub put-refusal-one : OneAnswerAnd put-refusal-kinds.ps put-refusal-kinds.r {L = List ℕ} (λ κs s. now (s .1 .0)) put-refusal-reads.Post
+put-refusal-one κs a x y s t p q = (same (p .0) (q .0), same (p .1) (q .1))

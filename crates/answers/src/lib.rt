@@ -4,6 +4,7 @@ use edit::Edited;
 use marks::Mark;
 use marks::MarkAnswer;
 use marks::Point;
+use refusals::Refusal;
 use study::Figures;
 use study::StudyAnswer;
 ghost use mathlib.Core.Path.{_≡_};
@@ -13,6 +14,7 @@ ghost use Rattle.marks.specs.ChartMarks.{kindOf, flowOf, stageOf, markRefusalIn
 ghost use Rattle.answers.specs.StudyNumbers.{studyNumbers, studyNumbersOf};
 ghost use Rattle.answers.specs.EditNumbers.{editNumbers, editNumbersOf, changesOf};
 ghost use Rattle.answers.specs.MarkNumbers.{markNumbers, markDoubles, markNumbersOf};
+ghost use Rattle.answers.specs.InflowNumbers.{refusalNumbers};
 
 // The figures of a refused answer.
 fn no_figures() -> Figures
@@ -198,4 +200,13 @@ pub fn put_mark(own: MarkAnswer, answer: &mut [u64; 3], values: &mut [f64; 5]) -
             )
         }
     }
+}
+
+// The answer of inflow rows alone, which has no figures. Gives the refusal number, 0 when done.
+pub fn put_refusal(own: Refusal, answer: &mut [u64; 2]) -> u64
+    ensures { λ r. ⌜ r ≡ own .number ⌝ }
+    ensures { λ _. ⌜ now (answer .exit) ≡ refusalNumbers own ⌝ }
+{
+    *answer = [own.number, own.place];
+    own.number
 }

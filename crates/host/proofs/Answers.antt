@@ -17,6 +17,10 @@ use Rattle.host.proofs.bt_edit.Kinds as bt-edit-kinds
 use Rattle.host.proofs.bt_edit.Reads as bt-edit-reads
 use Rattle.host.proofs.bt_mark.Kinds as bt-mark-kinds
 use Rattle.host.proofs.bt_mark.Reads as bt-mark-reads
+use Rattle.host.proofs.bt_inflow.Kinds as bt-inflow-kinds
+use Rattle.host.proofs.bt_inflow.Reads as bt-inflow-reads
+use Rattle.host.proofs.bt_textbook.Kinds as bt-textbook-kinds
+use Rattle.host.proofs.bt_textbook.Reads as bt-textbook-reads
 
 pub bt-interface-one : OneAnswer bt-interface-kinds.ps bt-interface-kinds.r bt-interface-reads.Post
 bt-interface-one κs a x y s t p q = same p q
@@ -38,3 +42,13 @@ bt-edit-one κs a x y s t p q = (same (p .0) (q .0), λ i. (same (p .1 .1 .1) (q
 
 pub bt-mark-one : OneAnswerAnd bt-mark-kinds.ps bt-mark-kinds.r {L = List ℕ × List Float} (λ κs s. (now (s .1 .1 .1 .1 .1 .1 .1 .0), now (s .1 .1 .1 .1 .1 .1 .1 .1 .0))) bt-mark-reads.Post
 bt-mark-one κs a x y s t p q = (same (p .0) (q .0), λ i. (same (p .1 .0) (q .1 .0) i, same (p .1 .1) (q .1 .1) i))
+
+-- what a call of `bt_inflow`, or of `bt_textbook`, leaves in the inflow list and in its array
+abbrev pub inflowLeft : (κs : Lfts 6) → AtExit (endedOf 6 bt-inflow-kinds.ps bt-inflow-kinds.r) κs → List ℕ × List ℕ
+inflowLeft κs (step, (first, (rule, (rain, (subareas, (inflow, (outflow, (storage, (answer, _))))))))) = (now inflow, now answer)
+
+pub bt-inflow-one : OneAnswerAnd bt-inflow-kinds.ps bt-inflow-kinds.r inflowLeft bt-inflow-reads.Post
+bt-inflow-one κs a x y s t p q = (same (p .0) (q .0), λ i. (same (p .1 .1) (q .1 .1) i, same (p .1 .0) (q .1 .0) i))
+
+pub bt-textbook-one : OneAnswerAnd bt-textbook-kinds.ps bt-textbook-kinds.r inflowLeft bt-textbook-reads.Post
+bt-textbook-one κs a x y s t p q = (same (p .0) (q .0), λ i. (same (p .1 .1) (q .1 .1) i, same (p .1 .0) (q .1 .0) i))

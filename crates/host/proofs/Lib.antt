@@ -8,6 +8,7 @@ pub mod Walking
 pub mod OneSaid
 pub mod RecordAnswers
 pub mod Answers
+pub mod HostEngines
 pub mod RecordEdits
 pub mod HostEdits
 pub mod HostCalls

@@ -4,7 +4,9 @@ pub mod records;
 
 use subarea::Setup;
 ghost use mathlib.Core.Path.{_≡_};
-ghost use Rattle.checks.specs.Site.{site, found, left};
+ghost use Rattle.checks.specs.Site.{site, basin, found, left};
+ghost use Rattle.inflow.specs.Inflow.{inflowRefusal, inflowAfter};
+ghost use Rattle.textbook.specs.Textbook.{textbookRefusal, textbookAfter};
 ghost use Rattle.study.specs.Study.{studyAnswer, studyRows, studyRefusalIn};
 ghost use Rattle.edit.specs.Edit.{editAnswer, editRows, editRefusalIn, editValuesIn};
 ghost use Rattle.marks.specs.ChartMarks.{markAnswer, markRefusalIn, markValuesIn};
@@ -12,10 +14,11 @@ ghost use Rattle.answers.specs.Setups.{setupOf};
 ghost use Rattle.answers.specs.StudyNumbers.{studyNumbersOf};
 ghost use Rattle.answers.specs.EditNumbers.{editNumbersOf, changesOf};
 ghost use Rattle.answers.specs.MarkNumbers.{markNumbersOf};
+ghost use Rattle.answers.specs.InflowNumbers.{refusalNumbers};
 ghost use Rattle.host.specs.Interface.{interface};
 
 // Raised with each change of a layout or of a signature below, or of the rows that a study leaves; the header's BT_INTERFACE is
-// the same.
+// the same. A function more does not raise it: an engine that lacks one does not link with a host that calls it.
 const INTERFACE: u64 = 5;
 
 // The number of the interface that this engine was built with.
@@ -106,4 +109,49 @@ pub extern "C" fn bt_mark(
 {
     let own = marks::mark_row(step, first, pond, inflow, outflow, storage, row);
     answers::put_mark(own, answer, values)
+}
+
+// The inflow rows alone, as a study works them: no pond. The answer is written whole in either case; a refused call leaves the
+// inflow list as it was. Of the outflow and storage lists only the lengths are read.
+#[no_mangle]
+pub extern "C" fn bt_inflow(
+    step: u64,
+    first: u64,
+    rule: u64,
+    rain: &[u64],
+    subareas: &[u64],
+    inflow: &mut [u64],
+    outflow: &[u64],
+    storage: &[u64],
+    answer: &mut [u64; 2],
+) -> u64
+    ensures { λ r. ⌜ r ≡ inflowRefusal (basin (setupOf step first rule) rain subareas) (found inflow outflow storage) .number ⌝ }
+    ensures { λ _. ⌜ now (answer .exit) ≡ refusalNumbers (inflowRefusal (basin (setupOf step first rule) rain subareas) (found inflow outflow storage)) ⌝ }
+    ensures { λ _. ⌜ now (inflow .exit) ≡ inflowAfter (basin (setupOf step first rule) rain subareas) (found inflow outflow storage) ⌝ }
+{
+    let setup = Setup { step, first, rule };
+    let own = inflow::run(setup, rain, subareas, inflow, outflow, storage);
+    answers::put_refusal(own, answer)
+}
+
+// The same by the second engine, in the textbook's way.
+#[no_mangle]
+pub extern "C" fn bt_textbook(
+    step: u64,
+    first: u64,
+    rule: u64,
+    rain: &[u64],
+    subareas: &[u64],
+    inflow: &mut [u64],
+    outflow: &[u64],
+    storage: &[u64],
+    answer: &mut [u64; 2],
+) -> u64
+    ensures { λ r. ⌜ r ≡ textbookRefusal (basin (setupOf step first rule) rain subareas) (found inflow outflow storage) .number ⌝ }
+    ensures { λ _. ⌜ now (answer .exit) ≡ refusalNumbers (textbookRefusal (basin (setupOf step first rule) rain subareas) (found inflow outflow storage)) ⌝ }
+    ensures { λ _. ⌜ now (inflow .exit) ≡ textbookAfter (basin (setupOf step first rule) rain subareas) (found inflow outflow storage) ⌝ }
+{
+    let setup = Setup { step, first, rule };
+    let own = textbook::run(setup, rain, subareas, inflow, outflow, storage);
+    answers::put_refusal(own, answer)
 }

@@ -1,6 +1,6 @@
 /*
- * Two studies that are refused, one that is not, an edit of it and its chart marks, from C. tests/host/run builds this,
- * runs it, and compares what it prints with example.txt.
+ * Two studies that are refused, one that is not, an edit of it, its inflow by both engines and its chart marks, from C.
+ * tests/host/run builds this, runs it, and compares what it prints with example.txt.
  *
  *     gcc -I include tests/host/example/example.c target/staticlib/libhost.a -o example
  */
@@ -140,6 +140,21 @@ static int build_over(void)
     return 0;
 }
 
+/* The inflow rows alone, by both engines. Of outflow and storage only the lengths are read. */
+static int work_inflow(uint64_t row)
+{
+    enum { FLAT = SUBAREAS * BT_WIDTH };
+    const uint64_t *flat = (const uint64_t *)list;
+    uint64_t one[ROWS], other[ROWS], answer[BT_INFLOW_ANSWER_LENGTH];
+    if (bt_inflow(STEP, FIRST, RULE, rain, RAIN, flat, FLAT, one, ROWS, outflow, ROWS, storage, ROWS, answer) != 0 ||
+        bt_textbook(STEP, FIRST, RULE, rain, RAIN, flat, FLAT, other, ROWS, outflow, ROWS, storage, ROWS, answer) != 0)
+        return refused("the inflow", answer);
+    printf("the inflow of row %" PRIu64 " alone\n", row);
+    thousandths("bt_inflow", one[row - 1], "cubic feet");
+    thousandths("bt_textbook", other[row - 1], "cubic feet");
+    return 0;
+}
+
 static int print_mark(uint64_t row)
 {
     static const char *const kinds[] = { "nothing", "an outflow", "the peak" };
@@ -161,7 +176,7 @@ int main(void)
         printf("the engine that is linked has another interface than the header\n");
         return 1;
     }
-    if (slip() != 0 || too_long() != 0 || work_study() != 0 || build_over() != 0)
+    if (slip() != 0 || too_long() != 0 || work_study() != 0 || build_over() != 0 || work_inflow(7) != 0)
         return 1;
     for (uint64_t row = 1; row <= ROWS; row++)
         if (print_mark(row) != 0)
