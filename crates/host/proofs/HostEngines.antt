@@ -1,6 +1,5 @@
 -- Q-6 as a host has it: a call of `bt_textbook` beside one of `bt_inflow`, lent the same. Assumes nothing.
 use mathlib.Core.Path.{sym, ap, _∙_}
-use Prim.Native.Nat.{ℕ}
 use Rattle.laws.proofs.OneAnswer.{SameAnswersAnd}
 use Rattle.refusals.specs.declared.Refusal.{Refusal}
 use Rattle.engines.proofs.EnginesAgree.{engines-agree}

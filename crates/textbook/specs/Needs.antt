@@ -34,7 +34,7 @@ pub record AddedOk (more : List ℕ) : Type 0 where
   pub few : length more ≤ mostRows
   pub small : (i : ℕ) → i < length more → getD more i 0 ≤ mostDepth
 
--- rows that have room for a piece of each weight
+-- rows in each of which stands no more than j of the greatest pieces
 pub record LaidOk (rows : List ℕ) (j : ℕ) : Type 0 where
   pub most : length rows ≤ mostRows
   pub room : (i : ℕ) → i < length rows → getD rows i 0 ≤ j * (mostDepth * mostWeight)

@@ -20,13 +20,13 @@ ghost use Rattle.hydrograph.specs.Needs.{mostDepth, TimingOk, RainOk, RoomOk};
 ghost use Rattle.subarea.specs.Records.{areaOf};
 ghost use Rattle.checks.specs.Site.{basin, found};
 ghost use Rattle.checks.specs.Needs.{RecordOk, ListOk};
-ghost use Rattle.textbook.specs.Textbook.{added, partLaidOf, textbookRows, textbookRefusal, textbookAfter};
+ghost use Rattle.textbook.specs.Textbook.{rainSteps, added, partLaidOf, textbookRows, textbookRefusal, textbookAfter};
 ghost use Rattle.textbook.specs.Needs.{mostWeight, laidBy, laidOn, AddedOk, LaidOk, SumsOk, partOfLaid};
 
 // Puts the runoff added in each rain step into a list, that of step 1 at place 0, on a curve number in tenths.
 fn fill_added(tenths: u64, rain: &[u64], list: &mut [u64; limits::MOST_ROWS])
     requires { ⌜ CurveOk tenths × (RainOk (now rain) × ((length (now rain) ≤ mostRows + 1) × (length (now list) ≡ mostRows))) ⌝ }
-    ensures { λ _. ⌜ Filled (λ i. added tenths (now (rain .entry)) (i + 1)) (length (now (rain .entry)) - 1) (now (list .exit)) × (length (now (list .exit)) ≡ mostRows) ⌝ }
+    ensures { λ _. ⌜ Filled (λ i. added tenths (now (rain .entry)) (i + 1)) (rainSteps (now (rain .entry))) (now (list .exit)) × (length (now (list .exit)) ≡ mostRows) ⌝ }
 {
     let mut before = 0;
     let mut t = 1;
