@@ -1,12 +1,13 @@
 -- What contracts ask and say of lists of runoffs added and of what is laid, and proofs use; no rule is here.
+use mathlib.Core.Path.{_≡_}
 use mathlib.Core.List.{List}
 use Prim.Native.Nat.{ℕ, _-_, _*_, _/_, _≤_, _<_}
 use lib.ListN.{length, getD}
-use Rattle.laws.specs.Limits.{mostRows, mostWeights}
+use Rattle.laws.specs.Limits.{mostRows, mostArea, mostWeights}
 use Rattle.laws.specs.Sum.{sumTo, sumFrom1}
 use Rattle.laws.specs.Listed.{plus}
-use Rattle.hydrograph.specs.InflowRows.{weight, weights, volumeOf}
-use Rattle.hydrograph.specs.Needs.{mostDepth}
+use Rattle.hydrograph.specs.InflowRows.{weight, weights, totalWeight, volumeOf}
+use Rattle.hydrograph.specs.Needs.{mostDepth, TimingOk, RoomOk}
 use Rattle.textbook.specs.Textbook.{inRow}
 
 -- no weight is above this
@@ -52,3 +53,13 @@ pub record SumsOk (w : ℕ) (laid : List ℕ) : Type 0 where
   pub some : 0 < w
   pub most : w ≤ mostWeights * mostWeight
   pub each : (k : ℕ) → k ≤ length laid → sumTo (λ i. getD laid i 0) k ≤ mostDepth * w
+
+-- what laying all pieces and adding the parts asks: rows of zeros to lay into, as many as there are rows to add to
+pub record LayingOk (A Tp D : ℕ) (more laid rows : List ℕ) : Type 0 where
+  pub area : A ≤ mostArea
+  pub timed : TimingOk D Tp
+  pub steps : AddedOk more
+  pub empty : LaidOk laid 0
+  pub sums : SumsOk (totalWeight Tp D) (laidOn more Tp D laid)
+  pub long : length laid ≡ length rows
+  pub room : RoomOk rows

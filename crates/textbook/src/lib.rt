@@ -21,7 +21,7 @@ ghost use Rattle.subarea.specs.Records.{areaOf};
 ghost use Rattle.checks.specs.Site.{basin, found};
 ghost use Rattle.checks.specs.Needs.{RecordOk, ListOk};
 ghost use Rattle.textbook.specs.Textbook.{rainSteps, added, partLaidOf, textbookRows, textbookRefusal, textbookAfter};
-ghost use Rattle.textbook.specs.Needs.{mostWeight, laidBy, laidOn, AddedOk, LaidOk, SumsOk, partOfLaid};
+ghost use Rattle.textbook.specs.Needs.{mostWeight, laidBy, laidOn, AddedOk, LaidOk, SumsOk, LayingOk, partOfLaid};
 
 // Puts the runoff added in each rain step into a list, that of step 1 at place 0, on a curve number in tenths.
 fn fill_added(tenths: u64, rain: &[u64], list: &mut [u64; limits::MOST_ROWS])
@@ -98,7 +98,7 @@ fn add_parts(area: u64, total: u64, laid: &[u64], rows: &mut [u64])
 
 // Lays all pieces into rows of zeros, and adds the parts that come of them.
 fn lay_and_add(area: u64, peak: u64, step: u64, more: &[u64], laid: &mut [u64], rows: &mut [u64])
-    requires { ⌜ (area ≤ mostArea) × (TimingOk step peak × (AddedOk (now more) × (LaidOk (now laid) 0 × (SumsOk (totalWeight peak step) (laidOn (now more) peak step (now laid)) × ((length (now laid) ≡ length (now rows)) × RoomOk (now rows)))))) ⌝ }
+    requires { ⌜ LayingOk area peak step (now more) (now laid) (now rows) ⌝ }
     ensures { λ _. ⌜ now (rows .exit) ≡ plus (partOfLaid area (totalWeight peak step) (laidOn (now (more .entry)) peak step (now (laid .entry)))) 1 (now (rows .entry)) ⌝ }
 {
     let total = lay(peak, step, more, laid);

@@ -60,22 +60,16 @@ lay-and-add-requires c κs =
     let few = s .pre .1 .1 .1 .0 in
     let room = f .fill-added .ensures .1 in
     let filled = f .fill-added .ensures .0 in
-    let empty = blank-ok (length (s .args .rows .now)) (rows-few f) in (
-      rw (wide f) (s .pre .1 .0),
-      (
-        timing-ok f,
-        (
-          added-ok (ground f .tenths) rain more few room filled (curve-ok f) (s .pre .1 .1 .0),
-          (
-            empty,
-            (
-              sums-ok (ground f .tenths) (peak f) (s .args .setup .step) rain (take (rainSteps rain) more) _ (front-long (ground f .tenths) rain more few room filled) (front-filled (ground f .tenths) rain more few room filled) empty (curve-ok f) (s .pre .1 .1 .0) (timing-ok f),
-              (length-take-le (length (s .args .rows .now)) _ (rows-few f), s .pre .1 .1 .1 .1),
-            ),
-          ),
-        ),
-      ),
-    )
+    let empty = blank-ok (length (s .args .rows .now)) (rows-few f) in
+    record {
+      area = rw (wide f) (s .pre .1 .0);
+      timed = timing-ok f;
+      steps = added-ok (ground f .tenths) rain more few room filled (curve-ok f) (s .pre .1 .1 .0);
+      empty = empty;
+      sums = sums-ok (ground f .tenths) (peak f) (s .args .setup .step) rain (take (rainSteps rain) more) _ (front-long (ground f .tenths) rain more few room filled) (front-filled (ground f .tenths) rain more few room filled) empty (curve-ok f) (s .pre .1 .1 .0) (timing-ok f);
+      long = length-take-le (length (s .args .rows .now)) _ (rows-few f);
+      room = s .pre .1 .1 .1 .1;
+    }
 
 returns : tie.Need-returns
 returns c =

@@ -17,6 +17,11 @@ start c = c .before .before .before .before .before
 same-sums : {w v : ℕ} {l m : List ℕ} → w ≡ v → l ≡ m → SumsOk v m → SumsOk w l
 same-sums e d ok = rw (e, d) ok
 
+lay-requires : tie.Need-lay-requires
+lay-requires c κs =
+    let p = c .before .before .before .before .pre in
+    (p .timed, (p .steps, p .empty))
+
 -- laying keeps the length
 long : (c : tie.After-lay) → length (c .lay .last .1 .1 .1 .0) ≡ length (start c .args .laid .now)
 long c =
@@ -27,7 +32,7 @@ add-parts-requires : tie.Need-add-parts-requires
 add-parts-requires c κs =
     let a = c .before .before .before .before in
     let p = start a .pre in
-    (p .0, (same-sums (a .lay .ensures .0) (a .lay .ensures .1) (p .1 .1 .1 .1 .0), (long a ∙ p .1 .1 .1 .1 .1 .0, p .1 .1 .1 .1 .1 .1)))
+    (p .area, (same-sums (a .lay .ensures .0) (a .lay .ensures .1) (p .sums), (long a ∙ p .long, p .room)))
 
 returns : tie.Need-returns
 returns c =
@@ -39,4 +44,4 @@ returns c =
 
 pub lay-and-add-spec : {M : Type 1} → statement M
 lay-and-add-spec =
-    tie.close (tie.spec (λ c κs. search needs) add-parts-requires (λ c. search needs) (λ c. search needs) returns)
+    tie.close (tie.spec lay-requires add-parts-requires (λ c. search needs) (λ c. search needs) returns)
