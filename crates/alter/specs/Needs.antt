@@ -72,3 +72,8 @@ pub record PartsOk (vs fs : List ℕ) : Type 0 where
   pub long : length fs ≡ length vs
   pub room : RoomOk vs
   pub least : (i : ℕ) → i < length vs → at fs i ≤ at vs i
+
+-- rows after row `from` that leave room, and from each of which its part f can be taken
+pub record PartsFit (f : ℕ → ℕ) (from : ℕ) (vs : List ℕ) : Type 0 where
+  pub room : RoomOk vs
+  pub least : (i : ℕ) → i < length vs → f (from + 1 + i) ≤ at vs i

@@ -3,31 +3,20 @@
 // Units: rain in thousandths of an inch, inflow volumes in thousandths of a cubic foot; a place counts the subareas from 1.
 pub mod order;
 
-use subarea::Setup;
+use sums::Numbers;
 ghost use mathlib.Core.Path.{_≡_};
-ghost use Prim.Native.Nat.{ℕ, _-_, _≤_};
+ghost use Prim.Native.Nat.{ℕ, _+_, _-_, _≤_, min};
 ghost use lib.ListN.{length};
 ghost use Rattle.laws.specs.Filled.{Filled};
 ghost use Rattle.curve.specs.declared.Classes.{Classes};
-ghost use Rattle.laws.specs.Limits.{mostRows, mostArea};
-ghost use Rattle.laws.specs.Listed.{rowsFrom};
+ghost use Rattle.laws.specs.Limits.{mostRows};
 ghost use Rattle.hydrograph.specs.Needs.{RainOk};
 ghost use Rattle.rows.specs.Figures.{at};
-ghost use Rattle.subarea.specs.Records.{areaOf};
-ghost use Rattle.inflow.specs.Inflow.{partOf};
+ghost use Rattle.sums.specs.Needs.{blockRows, NumbersOk};
+ghost use Rattle.parts.specs.Needs.{partBy};
 ghost use Rattle.study.specs.Study.{classesAll};
-ghost use Rattle.checks.specs.Needs.{RecordOk};
 ghost use Rattle.alter.specs.Altering.{altered, swapped, firstChanged};
-ghost use Rattle.alter.specs.Needs.{classesSwapped, SwapOk, GroundOk, PartsOk};
-
-// Writes a record's part of each row over whatever the list had.
-pub fn fill_parts(setup: Setup, rain: &[u64], own: &[u64], rows: &mut [u64])
-    requires { ⌜ RecordOk setup (now own) × ((areaOf (now own) ≤ mostArea) × (RainOk (now rain) × (length (now rows) ≤ mostRows))) ⌝ }
-    ensures { λ _. ⌜ now (rows .exit) ≡ rowsFrom (partOf setup (now (rain .entry)) (now (own .entry))) 1 (length (now (rows .entry))) ⌝ }
-{
-    laws::clear(rows);
-    inflow::add_record(setup, rain, own, rows);
-}
+ghost use Rattle.alter.specs.Needs.{classesSwapped, SwapOk, GroundOk, PartsOk, PartsFit};
 
 // Turns parts into what is left of the inflow without them.
 fn take_away(inflow: &[u64], rows: &mut [u64])
@@ -42,13 +31,106 @@ fn take_away(inflow: &[u64], rows: &mut [u64])
     }
 }
 
-// Turns the old record's parts into the new inflow rows: those found, less these parts, with the fresh record's.
-pub fn swap_parts(setup: Setup, rain: &[u64], fresh: &[u64], inflow: &[u64], rows: &mut [u64])
-    requires { ⌜ RecordOk setup (now fresh) × ((areaOf (now fresh) ≤ mostArea) × (RainOk (now rain) × PartsOk (now inflow) (now rows))) ⌝ }
-    ensures { λ _. ⌜ now (rows .exit) ≡ swapped (λ (k : ℕ). at (now (rows .entry)) (k - 1)) (partOf setup (now (rain .entry)) (now (fresh .entry))) 1 (now (inflow .entry)) ⌝ }
+// Writes the new inflow of a block of rows, those after row `from`: the inflow found, less the old record's parts, with the
+// fresh one's.
+pub fn swap_block(
+    old: Numbers,
+    fresh: Numbers,
+    step: u64,
+    rain: &[u64],
+    from: usize,
+    inflow: &[u64],
+    rows: &mut [u64],
+)
+    requires { ⌜ NumbersOk step old × (NumbersOk step fresh × (RainOk (now rain) × PartsFit (partBy step (now rain) old) from (now inflow))) ⌝ }
+    requires { ⌜ (length (now rows) ≡ length (now inflow)) × ((1 ≤ length (now inflow)) × ((length (now inflow) ≤ blockRows) × (from + length (now inflow) ≤ mostRows))) ⌝ }
+    ensures { λ _. ⌜ now (rows .exit) ≡ swapped (partBy step (now (rain .entry)) old) (partBy step (now (rain .entry)) fresh) (from + 1) (now (inflow .entry)) ⌝ }
 {
+    laws::clear(rows);
+    parts::add_block(old, step, rain, from, rows);
     take_away(inflow, rows);
-    inflow::add_record(setup, rain, fresh, rows);
+    parts::add_block(fresh, step, rain, from, rows);
+}
+
+fn least(a: usize, b: usize) -> usize
+    ensures { λ r. ⌜ r ≡ min a b ⌝ }
+{
+    if a < b { a } else { b }
+}
+
+// Writes the new inflow over that found, of rows after row `from`, block by block.
+pub fn swap_rows(
+    old: Numbers,
+    fresh: Numbers,
+    step: u64,
+    rain: &[u64],
+    from: usize,
+    inflow: &mut [u64],
+)
+    requires { ⌜ NumbersOk step old × (NumbersOk step fresh × (RainOk (now rain) × PartsFit (partBy step (now rain) old) from (now inflow))) ⌝ }
+    requires { ⌜ from + length (now inflow) ≤ mostRows ⌝ }
+    ensures { λ _. ⌜ now (inflow .exit) ≡ swapped (partBy step (now (rain .entry)) old) (partBy step (now (rain .entry)) fresh) (from + 1) (now (inflow .entry)) ⌝ }
+{
+    let m = inflow.len();
+    let mut at = 0;
+    while at < m {
+        let e = least(at + sums::BLOCK, m);
+        swap_in_place(old, fresh, step, rain, from + at, &mut inflow[at..e]);
+        at = e;
+    }
+}
+
+// The first row (from 0) whose inflow the fresh record changes, or the number of rows: looked for block by block.
+pub fn first_swapped(old: Numbers, fresh: Numbers, step: u64, rain: &[u64], inflow: &[u64]) -> usize
+    requires { ⌜ NumbersOk step old × (NumbersOk step fresh × (RainOk (now rain) × PartsFit (partBy step (now rain) old) 0 (now inflow))) ⌝ }
+    requires { ⌜ length (now inflow) ≤ mostRows ⌝ }
+    ensures { λ r. ⌜ r ≡ firstChanged (now (inflow .entry)) (swapped (partBy step (now (rain .entry)) old) (partBy step (now (rain .entry)) fresh) 1 (now (inflow .entry))) ⌝ }
+{
+    let m = inflow.len();
+    let mut rows = [0u64; sums::BLOCK];
+    let mut at = 0;
+    while at < m {
+        let e = least(at + sums::BLOCK, m);
+        let n = e - at;
+        swap_block(old, fresh, step, rain, at, &inflow[at..e], &mut rows[..n]);
+        let k = first_changed(&inflow[at..e], &rows[..n]);
+        if k < n {
+            return at + k;
+        }
+        at = e;
+    }
+    m
+}
+
+// Copies a list over another of its length.
+fn copy(from: &[u64], to: &mut [u64])
+    requires { ⌜ length (now to) ≡ length (now from) ⌝ }
+    ensures { λ _. ⌜ now (to .exit) ≡ now (from .entry) ⌝ }
+{
+    let mut i = 0;
+    while i < from.len() {
+        to[i] = from[i];
+        i += 1;
+    }
+}
+
+// Writes the new inflow of a block over that found.
+fn swap_in_place(
+    old: Numbers,
+    fresh: Numbers,
+    step: u64,
+    rain: &[u64],
+    from: usize,
+    inflow: &mut [u64],
+)
+    requires { ⌜ NumbersOk step old × (NumbersOk step fresh × (RainOk (now rain) × PartsFit (partBy step (now rain) old) from (now inflow))) ⌝ }
+    requires { ⌜ (1 ≤ length (now inflow)) × ((length (now inflow) ≤ blockRows) × (from + length (now inflow) ≤ mostRows)) ⌝ }
+    ensures { λ _. ⌜ now (inflow .exit) ≡ swapped (partBy step (now (rain .entry)) old) (partBy step (now (rain .entry)) fresh) (from + 1) (now (inflow .entry)) ⌝ }
+{
+    let n = inflow.len();
+    let mut rows = [0u64; sums::BLOCK];
+    swap_block(old, fresh, step, rain, from, inflow, &mut rows[..n]);
+    copy(&rows[..n], inflow);
 }
 
 // The first row (from 0) whose inflow volume differs, or the number of rows.

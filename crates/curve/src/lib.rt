@@ -14,7 +14,8 @@ pub const PATCH_WIDTH: usize = 3;
 
 pub const MOST_PATCHES: usize = 8;
 
-const COVER: [[u64; 4]; 22] = [
+// The cover table; narrow, since it is laid on the stack where it is read.
+const COVER: [[u8; 4]; 22] = [
     [68, 79, 86, 89],
     [49, 69, 79, 84],
     [39, 61, 74, 80],
@@ -61,6 +62,12 @@ pub struct Classes {
     pub rural: u64,
 }
 
+fn wider(x: u8) -> u64
+    ensures { λ r. ⌜ r ≡ x ⌝ }
+{
+    x as u64
+}
+
 // The curve number of a cover code on a soil group, whole.
 pub fn cover_number(cover: u64, soil: u64) -> u64
     requires { ⌜ CoverOk cover soil ⌝ }
@@ -68,7 +75,7 @@ pub fn cover_number(cover: u64, soil: u64) -> u64
 {
     let i = (cover - 1) as usize;
     let j = (soil - 1) as usize;
-    COVER[i][j]
+    wider(COVER[i][j])
 }
 
 // The class of a cover code, 0 for a number that is none.

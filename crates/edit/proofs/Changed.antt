@@ -10,20 +10,21 @@ use lib.ListN.{length, take, drop, take-append-drop, length-drop, length-append,
 use lib.Seq.{ext-getD, getD-take, getD-append-add, length-take-le}
 use borrow.Rule.Slice.PartMut.{putMid}
 use Rattle.laws.proofs.Num.{below-or-not}
-use Rattle.laws.proofs.Fill.{tail-part, tail-back}
+use Rattle.laws.proofs.Fill.{tail-back}
 use Rattle.laws.proofs.Scans.{scan-most, scan-before, scan-bad}
 use Rattle.pond.specs.PondRows.{rowsIn}
 use Rattle.pond.specs.Needs.{PondOk, StateOk}
 use Rattle.pond.specs.declared.State.{State}
 use Rattle.pond.proofs.Steps.{empty-ok}
 use Rattle.pond.proofs.Sums.{last-most}
-use Rattle.rows.specs.Routing.{outflowOf, storageOf, outflows, storages, passed, stateBefore}
+use Rattle.rows.specs.Routing.{outflowOf, storageOf, outflows, storages, passed, stateBefore, total}
 use Rattle.rows.specs.Figures.{at, keptTo, figuresOf}
 use Rattle.rows.specs.Needs.{RowOk, RowsOk}
 use Rattle.rows.proofs.Columns.{column-length}
 use Rattle.rows.proofs.Keeping.{max-most}
 use Rattle.rows.proofs.Turns.{released-to}
 use Rattle.rows.proofs.Reached.{rows-stand}
+use Rattle.rows.proofs.Totals.{total-split}
 use Rattle.checks.specs.Site.{Rows}
 use Rattle.alter.specs.Altering.{firstChanged, outflowsFrom, storagesFrom}
 use Rattle.edit.specs.Needs.{SmallOk}
@@ -68,9 +69,12 @@ module _ (vs ws : List ℕ) where
     changed-tail = ap (λ (l : List ℕ). l ++ drop (firstChanged vs ws) ws) changed-front ∙ take-append-drop (firstChanged vs ws) ws
 
     -- such a tail written over the old rows leaves all new rows
-    pub tail-written : (a : ℕ) (tail : List ℕ) → a ≡ firstChanged vs ws → tail ≡ take (length ws - a) (drop a ws) → putMid a (length vs - a) vs tail ≡ ws
-    tail-written a tail e f =
-        tail-back vs tail a ∙ ap (λ (l : List ℕ). take a vs ++ l) (f ∙ tail-part ws a) ∙ ap (λ (z : ℕ). take z vs ++ drop z ws) e ∙ changed-tail
+    pub tail-written : (a : ℕ) (tail : List ℕ) → a ≡ firstChanged vs ws → tail ≡ drop a ws → putMid a (length vs - a) vs tail ≡ ws
+    tail-written a tail e f = tail-back vs tail a ∙ ap (λ (l : List ℕ). take a vs ++ l) f ∙ ap (λ (z : ℕ). take z vs ++ drop z ws) e ∙ changed-tail
+
+    -- the inflow before it, and the new inflow from there on, are all new inflow
+    pub changed-total : total (take (firstChanged vs ws) vs) + total (drop (firstChanged vs ws) ws) ≡ total ws
+    changed-total = ap (λ (l : List ℕ). total l + total (drop (firstChanged vs ws) ws)) changed-front ∙ sym (total-split (firstChanged vs ws) ws)
 
 module _ {h : ℕ} {p : List ℕ} (pond : PondOk h p) (os ss : List ℕ) (ok : RowsOk h p os ss) where
   -- the state before a row, as rows that can be a pond's have it

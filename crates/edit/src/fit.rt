@@ -1,49 +1,76 @@
 // Refusals 16 and 17 of an edit, each over all rows as found; half is half the step, in seconds.
 use laws::limits;
-use refusals::Refusal;
+use sums::Numbers;
 ghost use mathlib.Core.Path.{_≡_};
+ghost use Prim.Native.Nat.{ℕ, _+_, _≤_, min};
 ghost use lib.ListN.{length};
-ghost use Rattle.pond.specs.Needs.{PondOk};
-ghost use Rattle.checks.specs.Site.{found};
-ghost use Rattle.refusals.specs.Refusals.{firstOf, firstRefusal};
-ghost use Rattle.edit.specs.Needs.{firstUnder, partLines};
+ghost use Rattle.laws.specs.Limits.{mostRows};
+ghost use Rattle.hydrograph.specs.Needs.{RainOk};
+ghost use Rattle.sums.specs.Needs.{blockRows, NumbersOk};
+ghost use Rattle.parts.specs.Needs.{partBy};
+ghost use Rattle.edit.specs.Needs.{fitBy, fitOf, fitUnder};
 
-// The first row (from 0) with less inflow than its part, or with more than any study gives, or the number of rows.
-fn first_unfit(parts: &[u64], inflow: &[u64]) -> usize
-    requires { ⌜ length (now parts) ≡ length (now inflow) ⌝ }
-    ensures { λ r. ⌜ r ≡ firstUnder (now (parts .entry)) (now (inflow .entry)) ⌝ }
+// How far rows fit the old record: the first (from 0) that does not, or their number; and what the rows before it leave without
+// the old record's parts.
+pub struct Fit {
+    pub bad: usize,
+    pub left: u64,
+}
+
+// The same of a block of rows, with the old record's parts of them.
+fn fit_block(parts: &[u64], inflow: &[u64]) -> Fit
+    requires { ⌜ (length (now parts) ≡ length (now inflow)) × (length (now inflow) ≤ mostRows) ⌝ }
+    ensures { λ r. ⌜ r ≡ fitUnder (now (parts .entry)) (now (inflow .entry)) ⌝ }
 {
+    let mut left = 0;
     let mut i = 0;
     while i < inflow.len() {
         let own = inflow[i];
         if !laws::both(parts[i] <= own, own <= limits::MOST_INFLOW) {
-            return i;
+            return Fit { bad: i, left };
         }
+        left += own - parts[i];
         i += 1;
     }
-    i
+    Fit { bad: i, left }
 }
 
-// 16
-fn unfit_check(parts: &[u64], inflow: &[u64]) -> Refusal
-    requires { ⌜ length (now parts) ≡ length (now inflow) ⌝ }
-    ensures { λ r. ⌜ r ≡ firstOf 16 (firstUnder (now (parts .entry)) (now (inflow .entry))) (length (now (inflow .entry))) ⌝ }
+// The same of a block of rows after row `from`, of which the parts are worked out.
+fn fit_next(old: Numbers, step: u64, rain: &[u64], from: usize, inflow: &[u64]) -> Fit
+    requires { ⌜ NumbersOk step old × (RainOk (now rain) × ((1 ≤ length (now inflow)) × ((length (now inflow) ≤ blockRows) × (from + length (now inflow) ≤ mostRows)))) ⌝ }
+    ensures { λ r. ⌜ r ≡ fitBy (λ (i : ℕ). partBy step (now (rain .entry)) old (from + 1 + i)) (now (inflow .entry)) ⌝ }
 {
-    Refusal::first_of(16, first_unfit(parts, inflow), inflow.len())
+    let n = inflow.len();
+    let mut rows = [0u64; sums::BLOCK];
+    parts::add_block(old, step, rain, from, &mut rows[..n]);
+    fit_block(&rows[..n], inflow)
 }
 
-// Refusals 16 and 17; parts are the old record's.
-pub(crate) fn rows_checks(
-    half: u64,
-    pond: &[u64],
-    parts: &[u64],
-    inflow: &[u64],
-    outflow: &[u64],
-    storage: &[u64],
-) -> Refusal
-    requires { ⌜ PondOk half (now pond) × (length (now parts) ≡ length (now inflow)) ⌝ }
-    requires { ⌜ length (now storage) ≡ length (now outflow) ⌝ }
-    ensures { λ r. ⌜ r ≡ firstRefusal (partLines half (now (pond .entry)) (now (parts .entry)) (found inflow outflow storage)) ⌝ }
+fn least(a: usize, b: usize) -> usize
+    ensures { λ r. ⌜ r ≡ min a b ⌝ }
 {
-    unfit_check(parts, inflow).or(checks::forged_check(half, pond, outflow, storage))
+    if a < b { a } else { b }
+}
+
+// 16, looked for block by block.
+pub(crate) fn fit_rows(old: Numbers, step: u64, rain: &[u64], inflow: &[u64]) -> Fit
+    requires { ⌜ NumbersOk step old × (RainOk (now rain) × (length (now inflow) ≤ mostRows)) ⌝ }
+    ensures { λ r. ⌜ r ≡ fitOf (partBy step (now (rain .entry)) old) (now (inflow .entry)) ⌝ }
+{
+    let m = inflow.len();
+    let mut left = 0;
+    let mut at = 0;
+    while at < m {
+        let e = least(at + sums::BLOCK, m);
+        let fit = fit_next(old, step, rain, at, &inflow[at..e]);
+        left += fit.left;
+        if fit.bad < e - at {
+            return Fit {
+                bad: at + fit.bad,
+                left,
+            };
+        }
+        at = e;
+    }
+    Fit { bad: m, left }
 }

@@ -2,23 +2,21 @@
 // Units: rain in thousandths of an inch, inflow volumes and storage in thousandths of a cubic foot, outflow in thousandths
 // of a cfs; half is half the step, in seconds; a place counts the subareas from 1.
 mod fit;
+mod over;
 
-use laws::limits;
 use refusals::Refusal;
-use rows::Dry;
 use rows::RowFigures;
 use study::Figures;
 use subarea::Setup;
+use sums::Numbers;
 ghost use mathlib.Core.Path.{_≡_};
-ghost use Prim.Native.Nat.{_-_, _≤_};
-ghost use lib.ListN.{length, drop};
-ghost use Rattle.pond.specs.Needs.{PondOk};
-ghost use Rattle.rows.specs.Routing.{passed, stateBefore};
-ghost use Rattle.rows.specs.Needs.{dryOf, InflowOk, RowsOk};
+ghost use Prim.Native.Nat.{_/_, _≤_};
+ghost use lib.ListN.{drop};
+ghost use Rattle.rows.specs.Routing.{overRow, stateBefore, total};
 ghost use Rattle.checks.specs.Site.{siteNow, rowsNow, site, found, left};
 ghost use Rattle.alter.specs.Altering.{firstChanged, changedAt};
 ghost use Rattle.edit.specs.Edit.{rerouted, change, told, editedOf, editRefusal, editAnswer, editRows, editRefusalIn, editValuesIn, editValues};
-ghost use Rattle.edit.specs.Needs.{settledFrom, settledRowsFrom, refitted, refittedRows, EditOk, RowsFit, SmallOk};
+ghost use Rattle.edit.specs.Needs.{settledFrom, settledRowsFrom, refitted, refittedRows, newBy, EditOk, SwapFit, SmallOk};
 
 // The figures over the rows then standing, the first changed row (from 1; 0 if none), and the changes of peak outflow and
 // of total released, new less old.
@@ -64,95 +62,77 @@ fn tell(own: RowFigures, old: RowFigures, classes: curve::Classes, changed: u64)
     }
 }
 
-// Writes the rows from row a on, which all pass, and gives what is told of them. The rows before are not lent onward.
+// Writes the rows from row a on, which all pass, and gives what is told of them. The old figures are read before a row is
+// written; the rows before a are not lent onward.
 fn finish(
-    half: u64,
+    step: u64,
+    rain: &[u64],
     pond: &[u64],
-    new: &[u64],
+    old: Numbers,
+    own: Numbers,
     inflow: &mut [u64],
     outflow: &mut [u64],
     storage: &mut [u64],
     a: usize,
     classes: curve::Classes,
 ) -> Edited
-    requires { ⌜ RowsFit half (now pond) (rowsNow inflow outflow storage) (now new) × ((a ≡ firstChanged (now inflow) (now new)) × ((a ≤ length (now new)) × (a ≤ length (now inflow)))) ⌝ }
-    requires { ⌜ passed half (now pond) (stateBefore (now outflow) (now storage) a) (drop a (now new)) ≡ length (now new) - a ⌝ }
-    ensures { λ r. ⌜ r ≡ editedOf half classes (now (pond .entry)) (found inflow outflow storage) (rerouted half (now (pond .entry)) (found inflow outflow storage) (now (new .entry))) ⌝ }
-    ensures { λ _. ⌜ left inflow outflow storage ≡ rerouted half (now (pond .entry)) (found inflow outflow storage) (now (new .entry)) ⌝ }
+    requires { ⌜ SwapFit step (now rain) (now pond) old own (rowsNow inflow outflow storage) ⌝ }
+    requires { ⌜ a ≡ firstChanged (now inflow) (newBy step (now rain) old own (now inflow)) ⌝ }
+    requires { ⌜ overRow (step / 2) (now pond) (stateBefore (now outflow) (now storage) a) (drop a (newBy step (now rain) old own (now inflow))) ≡ 0 ⌝ }
+    ensures { λ r. ⌜ r ≡ editedOf (step / 2) classes (now (pond .entry)) (found inflow outflow storage) (rerouted (step / 2) (now (pond .entry)) (found inflow outflow storage) (newBy step (now (rain .entry)) old own (now (inflow .entry)))) ⌝ }
+    ensures { λ _. ⌜ left inflow outflow storage ≡ rerouted (step / 2) (now (pond .entry)) (found inflow outflow storage) (newBy step (now (rain .entry)) old own (now (inflow .entry))) ⌝ }
 {
-    let old = rows::figures_of(pond, half, inflow, outflow, storage);
-    study::copy(&new[a..], &mut inflow[a..]);
-    rows::route_from(pond, half, new, outflow, storage, a);
-    let own = rows::figures_of(pond, half, new, outflow, storage);
-    tell(own, old, classes, changed_row(a, new.len()))
-}
-
-// Routes the new inflow rows from row a on, from the state that the row before has, and writes nothing.
-fn dry_tail(half: u64, pond: &[u64], new: &[u64], outflow: &[u64], storage: &[u64], a: usize) -> Dry
-    requires { ⌜ PondOk half (now pond) × (RowsOk half (now pond) (now outflow) (now storage) × (InflowOk (now new) × ((length (now new) ≡ length (now outflow)) × (a ≤ length (now new))))) ⌝ }
-    ensures { λ r. ⌜ r ≡ dryOf half (now (pond .entry)) (stateBefore (now (outflow .entry)) (now (storage .entry)) a) (drop a (now (new .entry))) ⌝ }
-{
-    let before = rows::state_before(outflow, storage, a);
-    rows::dry_run(pond, half, before, &new[a..])
+    let half = step / 2;
+    let before = rows::figures_of(pond, half, inflow, outflow, storage);
+    alter::swap_rows(old, own, step, rain, a, &mut inflow[a..]);
+    let after = rows::write_from(pond, half, inflow, outflow, storage, a);
+    tell(after, before, classes, changed_row(a, inflow.len()))
 }
 
 // Refusal 14, or the rows from the first changed one on and what is told of them. Nothing is written before every row is
-// known to pass.
+// known to pass. `all` is no less than all the new inflow.
 fn settle(
-    half: u64,
+    step: u64,
+    rain: &[u64],
     pond: &[u64],
-    new: &[u64],
+    old: Numbers,
+    own: Numbers,
+    all: u64,
     inflow: &mut [u64],
     outflow: &mut [u64],
     storage: &mut [u64],
     classes: curve::Classes,
 ) -> EditAnswer
-    requires { ⌜ RowsFit half (now pond) (rowsNow inflow outflow storage) (now new) ⌝ }
-    ensures { λ r. ⌜ r ≡ settledFrom half classes (now (pond .entry)) (found inflow outflow storage) (now (new .entry)) ⌝ }
-    ensures { λ _. ⌜ left inflow outflow storage ≡ settledRowsFrom half (now (pond .entry)) (found inflow outflow storage) (now (new .entry)) ⌝ }
+    requires { ⌜ SwapFit step (now rain) (now pond) old own (rowsNow inflow outflow storage) ⌝ }
+    requires { ⌜ (all ≤ 1000000000000000000) × (total (newBy step (now rain) old own (now inflow)) ≤ all) ⌝ }
+    ensures { λ r. ⌜ r ≡ settledFrom (step / 2) classes (now (pond .entry)) (found inflow outflow storage) (newBy step (now (rain .entry)) old own (now (inflow .entry))) ⌝ }
+    ensures { λ _. ⌜ left inflow outflow storage ≡ settledRowsFrom (step / 2) (now (pond .entry)) (found inflow outflow storage) (newBy step (now (rain .entry)) old own (now (inflow .entry))) ⌝ }
 {
-    let a = alter::first_changed(inflow, new);
-    let dry = dry_tail(half, pond, new, outflow, storage, a);
-    if dry.over != 0 {
+    let a = alter::first_swapped(old, own, step, rain, inflow);
+    let state = rows::state_before(outflow, storage, a);
+    let come = all - rows::sum_of(&inflow[..a]);
+    let over = over::over_from(old, own, step, rain, pond, state, a, &inflow[a..], come);
+    if over != 0 {
         return EditAnswer::Refused(Refusal {
             number: 14,
-            place: a as u64 + dry.over,
+            place: a as u64 + over,
         });
     }
-    EditAnswer::Done(finish(half, pond, new, inflow, outflow, storage, a, classes))
+    EditAnswer::Done(finish(
+        step,
+        rain,
+        pond,
+        old,
+        own,
+        inflow,
+        outflow,
+        storage,
+        a,
+        classes,
+    ))
 }
 
-// What the checks before 16 leave to do; new is a list for the new inflow rows.
-fn refit(
-    setup: Setup,
-    rain: &[u64],
-    subareas: &[u64],
-    pond: &[u64],
-    inflow: &mut [u64],
-    outflow: &mut [u64],
-    storage: &mut [u64],
-    place: u64,
-    fresh: &[u64],
-    new: &mut [u64],
-) -> EditAnswer
-    requires { ⌜ EditOk (siteNow setup rain subareas pond) (rowsNow inflow outflow storage) place (now fresh) × (length (now new) ≡ length (now inflow)) ⌝ }
-    ensures { λ r. ⌜ r ≡ refitted (site setup rain subareas pond) (found inflow outflow storage) place (now (fresh .entry)) ⌝ }
-    ensures { λ _. ⌜ left inflow outflow storage ≡ refittedRows (site setup rain subareas pond) (found inflow outflow storage) place (now (fresh .entry)) ⌝ }
-{
-    let a = subarea::WIDTH * (place as usize - 1);
-    let e = a + subarea::WIDTH;
-    let half = setup.step / 2;
-    alter::fill_parts(setup, rain, &subareas[a..e], new);
-    let v = fit::rows_checks(half, pond, new, inflow, outflow, storage);
-    if v.number != 0 {
-        return EditAnswer::Refused(v);
-    }
-    alter::swap_parts(setup, rain, fresh, inflow, new);
-    let classes = alter::altered_classes(subareas, place, fresh);
-    settle(half, pond, new, inflow, outflow, storage, classes)
-}
-
-// The same, with the list for the new inflow rows: no lent row is written before 14 is known.
+// What the checks before 16 leave to do.
 fn work(
     setup: Setup,
     rain: &[u64],
@@ -168,19 +148,34 @@ fn work(
     ensures { λ r. ⌜ r ≡ refitted (site setup rain subareas pond) (found inflow outflow storage) place (now (fresh .entry)) ⌝ }
     ensures { λ _. ⌜ left inflow outflow storage ≡ refittedRows (site setup rain subareas pond) (found inflow outflow storage) place (now (fresh .entry)) ⌝ }
 {
-    let m = inflow.len();
-    let mut new = [0u64; limits::MOST_ROWS];
-    refit(
-        setup,
-        rain,
-        subareas,
+    let a = subarea::WIDTH * (place as usize - 1);
+    let e = a + subarea::WIDTH;
+    let step = setup.step;
+    let old = inflow::numbers(setup, &subareas[a..e]);
+    let own = inflow::numbers(setup, fresh);
+    let fit = fit::fit_rows(old, step, rain, inflow);
+    let v = Refusal::first_of(16, fit.bad, inflow.len()).or(checks::forged_check(
+        step / 2,
         pond,
+        outflow,
+        storage,
+    ));
+    if v.number != 0 {
+        return EditAnswer::Refused(v);
+    }
+    let all = fit.left + inflow::most_volume(own.tenths, own.area, rain);
+    let classes = alter::altered_classes(subareas, place, fresh);
+    settle(
+        step,
+        rain,
+        pond,
+        old,
+        own,
+        all,
         inflow,
         outflow,
         storage,
-        place,
-        fresh,
-        &mut new[..m],
+        classes,
     )
 }
 

@@ -1,7 +1,8 @@
 pub mod Lines
 pub mod Weights
+pub mod Pens
+pub mod Hands
 pub mod Released
 pub mod Room
-pub mod Parts
 pub mod Timing
 pub mod Answers

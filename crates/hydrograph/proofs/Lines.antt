@@ -2,8 +2,8 @@
 use mathlib.Core.Path.{_≡_, refl, sym, ap, _∙_}
 use mathlib.Core.Bool.{Bool, _&&_}
 use mathlib.Core.Logic.{⊎-elim}
-use Prim.Native.Nat.{ℕ, _+_, _-_, _*_, _≤_, _<_}
-use native.Mathlib.Nat.{eq-zero-or-pos, mul-le-mul, mul-le-mul-right, div-le-of-le-mul, le-div-iff-mul-le, mul-sub}
+use Prim.Native.Nat.{ℕ, _+_, _-_, _*_, _≤_, _<_, min}
+use native.Mathlib.Nat.{eq-zero-or-pos, eq-or-lt-of-le, mul-le-mul, mul-le-mul-left, mul-le-mul-right, div-le-of-le-mul, le-div-iff-mul-le, mul-sub}
 use native.Mathlib.Omega.{arith}
 use borrow.Author.Tests.{leb-true, le-leb, lt-leb, eqb-true, ltb-true, ltb-false}
 use lib.Dec.{leb, ltb, eqb}
@@ -11,9 +11,9 @@ use Rattle.laws.specs.Pick.{pick}
 use Rattle.laws.specs.Scan.{scan}
 use Rattle.laws.proofs.Num.{below-or-not}
 use Rattle.laws.proofs.Tests.{both-left, both-right}
-use Rattle.laws.proofs.Scans.{scan-all, scan-bad, scan-before}
-use Rattle.hydrograph.specs.InflowRows.{time, ratio, lineAt, onLine}
-use Rattle.hydrograph.specs.Needs.{LineOk}
+use Rattle.laws.proofs.Scans.{scan-all, scan-bad, scan-before, scan-most}
+use Rattle.hydrograph.specs.InflowRows.{time, ratio, lineAt, onLine, weights}
+use Rattle.hydrograph.specs.Needs.{LineOk, hand}
 
 -- a knot's time is above the one before, by 5 at most
 abbrev rises : ℕ → Bool
@@ -133,11 +133,44 @@ module _ (Tp t : ℕ) where
       from-before : (k : ℕ) → k + 1 ≡ scan ended 32 0 → time (scan ended 32 0) * Tp ≤ t
       from-before k e = rw (← e) (omega (arith, ltb-true (time (k + 1) * Tp) t (scan-before ended 32 0 k (omega arith) (omega arith))))
 
+  -- a line that ends before t is passed
+  pub line-passed : (k : ℕ) → t ≤ 50 * Tp → k ≤ lineAt Tp t → time (k + 1) * Tp < t → k + 1 ≤ lineAt Tp t
+  line-passed k h l ends =
+      ⊎-elim (λ (e : k ≡ lineAt Tp t). absurd (here e)) (λ (w : k < lineAt Tp t). omega arith) (eq-or-lt-of-le l)
+    where
+      here : k ≡ lineAt Tp t → ⊥
+      here e = omega (arith, on-line h .high, ap (λ (z : ℕ). time (z + 1) * Tp) e)
+
+-- a later time lies on the same line or a later one, past the last knot too
+pub line-rises : (Tp t u : ℕ) → t ≤ u → lineAt Tp t ≤ lineAt Tp u
+unfolding lineAt
+line-rises Tp t u l =
+    ⊎-elim (λ w. line-within Tp t (lineAt Tp u) (omega (arith, ltb-false (time (lineAt Tp u + 1) * Tp) u (scan-bad (ended Tp u) 32 0 w))))
+    (λ w. omega (arith, w, scan-most (ended Tp t) 32 0))
+    (below-or-not (lineAt Tp u) 32)
+
+-- the line of a hand's last weight is at or before that of the weight after the hand
+pub line-next : (Tp D done : ℕ) → lineAt Tp (10 * (min (done + hand) (weights Tp D) * D)) ≤ lineAt Tp (10 * ((done + hand + 1) * D))
+line-next Tp D done =
+    line-rises Tp (10 * (min (done + hand) (weights Tp D) * D)) (10 * ((done + hand + 1) * D))
+    (mul-le-mul-left 10 (mul-le-mul-right D (omega arith)))
+
+-- on a line a later time up to its end lies on it too
+pub line-stays : (Tp t u i : ℕ) → i ≡ lineAt Tp t → t ≤ u → u ≤ time (i + 1) * Tp → i ≡ lineAt Tp u
+line-stays Tp t u i e l h = omega (arith, e, line-rises Tp t u l, line-within Tp u i h)
+
 -- 1000 times a value is at most 1,000,000
 pub on-line-most : (t a b y0 y1 : ℕ) → LineOk t a b y0 y1 → onLine t a b y0 y1 ≤ 1000000
 unfolding onLine
 on-line-most t a b y0 y1 ok =
     div-le-of-le-mul (b - a) (omega (arith, mul-le-mul-right (b - t) (ok .from-most), mul-le-mul-right (t - a) (ok .to-most)))
+
+-- what each end's ratio has in a value, so that no product of them wraps
+pub from-side : {t a b y0 y1 : ℕ} → LineOk t a b y0 y1 → y0 * (b - t) ≤ 20000000000
+from-side ok = mul-le-mul {m₂ = 20000000} (ok .from-most) (omega arith)
+
+pub to-side : {t a b y0 y1 : ℕ} → LineOk t a b y0 y1 → y1 * (t - a) ≤ 20000000000
+to-side ok = mul-le-mul {m₂ = 20000000} (ok .to-most) (omega arith)
 
 -- and no less than 1000 times what both ends are no less than
 pub on-line-least : (k t a b y0 y1 : ℕ) → LineOk t a b y0 y1 → k ≤ y0 → k ≤ y1 → 1000 * k ≤ onLine t a b y0 y1

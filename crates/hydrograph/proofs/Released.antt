@@ -82,6 +82,19 @@ module _ (c : ℕ) (rain : List ℕ) (curve : CurveOk c) (ok : RainOk rain) wher
     unfolding depthReleased
     released-most k = div-le-of-le-mul W (omega (arith, sum-bound k))
 
+    -- no more is ever released than the last runoff depth
+    pub released-last : (k : ℕ) → depthReleased c Tp D rain k ≤ depth c (getD rain (length rain - 1) 0)
+    unfolding depthReleased totalWeight
+    released-last k =
+        let last = depth c (getD rain (length rain - 1) 0) in
+        let most : sumAt k ≤ sumTo (λ i. last * weightAt Tp D i) (weights Tp D) = sum-le (λ i. term c Tp D rain k (i + 1)) (λ i. last * weightAt Tp D i) (weights Tp D) (λ i h. each i) in
+        div-le-of-le-mul W (omega (arith, most, sum-times last (weightAt Tp D) (weights Tp D), mul-comm last W))
+      where
+        each : (i : ℕ) → term c Tp D rain k (i + 1) ≤ depth c (getD rain (length rain - 1) 0) * weightAt Tp D i
+        each i =
+            let t = k + 1 - (i + 1) in
+            rw (← runoff-last (t + length rain) (omega arith), mul-comm (runoffAt c rain (t + length rain)) (weightAt Tp D i)) (mul-le-mul-left (weight Tp D (i + 1)) (runoff-rises t (t + length rain) (omega arith)))
+
     -- nothing is released before the first row
     pub released-none : depthReleased c Tp D rain 0 ≡ 0
     unfolding sumTo depthReleased runoffAt
@@ -114,6 +127,11 @@ module _ (c : ℕ) (rain : List ℕ) (curve : CurveOk c) (ok : RainOk rain) wher
       pub volume-most : (k : ℕ) → volume c A Tp D rain k ≤ 1089000 * A
       unfolding volumeOf
       volume-most k = omega (arith, mul-le-mul-left (363 * A) (released-most k))
+
+      -- all volume through any row is at most the volume of the last depth
+      pub volume-last : (k : ℕ) → volume c A Tp D rain k ≤ volumeOf A (depth c (getD rain (length rain - 1) 0))
+      unfolding volumeOf
+      volume-last k = omega (arith, mul-le-mul-left (363 * A) (released-last k))
 
       pub volume-none : volume c A Tp D rain 0 ≡ 0
       unfolding volumeOf

@@ -3,7 +3,20 @@ use mathlib.Core.Path.{_≡_}
 use mathlib.Core.List.{List}
 use Prim.Native.Nat.{ℕ, _+_, _-_, _*_, _≤_, _<_}
 use lib.ListN.{length, getD}
+use lib.Dec.{ltb}
+use Rattle.laws.specs.Pick.{pick}
 use Rattle.laws.specs.Limits.{mostRows, leastStep, mostStep, mostRain, mostWeights}
+use Rattle.hydrograph.specs.InflowRows.{time, ratio, lineAt, top, weightAt, weights}
+use Rattle.hydrograph.specs.declared.Pace.{Pace}
+use Rattle.hydrograph.specs.declared.Pen.{Pen}
+
+-- weights that are worked out and laid at once
+abbrev pub hand : ℕ
+hand = 8
+
+-- the weights from place 0 on, and 0 past the last
+unfoldable pub weighed : ℕ → ℕ → ℕ → ℕ
+weighed Tp D g = pick (ltb g (weights Tp D)) (weightAt Tp D g) 0
 
 -- number i of one list times the number of another that stands as many places before k
 abbrev pub product : List ℕ → List ℕ → ℕ → ℕ → ℕ
@@ -44,3 +57,26 @@ pub record Below (l : List ℕ) (n m : ℕ) : Type 0 where
 pub record RoomOk (rows : List ℕ) : Type 0 where
   pub most : length rows ≤ mostRows
   pub room : (i : ℕ) → i < length rows → getD rows i 0 ≤ 1000000000000000000
+
+-- the length of line i of the shape, and 1000 times its value at t times that length
+abbrev pub lengthOn : ℕ → ℕ → ℕ
+lengthOn Tp i = time (i + 1) * Tp - time i * Tp
+
+abbrev pub valueOn : ℕ → ℕ → ℕ → ℕ
+valueOn Tp t i = 1000 * top t (time i * Tp) (time (i + 1) * Tp) (ratio i) (ratio (i + 1))
+
+-- what a step changes on a line from y0 to y1, told with no sign; nothing is asked where less than a step is left of the line
+pub record PaceOk (left length D y0 y1 : ℕ) (pace : Pace) : Type 0 where
+  pub step : 10 * D ≤ left → pace .up * length + pace .more + 10000 * D * y0 ≡ pace .down * length + 10000 * D * y1
+  pub more-most : pace .more ≤ length
+  pub up-most : pace .up ≤ 36000000000
+
+-- a pen: its line is the one on which its time lies; weight and rest are quotient and remainder of the line's value there
+pub record PenOk (Tp D : ℕ) (pen : Pen) : Type 0 where
+  pub early : pen .time ≤ 50 * Tp
+  pub at-line : pen .line ≡ lineAt Tp (pen .time)
+  pub at-end : pen .end ≡ time (pen .line + 1) * Tp
+  pub at-length : pen .length ≡ lengthOn Tp (pen .line)
+  pub value : pen .weight * pen .length + pen .rest ≡ valueOn Tp (pen .time) (pen .line)
+  pub less : pen .rest < pen .length
+  pub pace-ok : PaceOk (pen .end - pen .time) (pen .length) D (ratio (pen .line)) (ratio (pen .line + 1)) (pen .pace)

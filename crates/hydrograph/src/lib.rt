@@ -3,16 +3,17 @@
 // depths in millionths of an inch, volumes in thousandths of a cubic foot.
 use laws::limits;
 ghost use mathlib.Core.Path.{_≡_};
-ghost use Prim.Native.Nat.{_+_, _-_, _*_, _≤_, _<_, min};
+ghost use Prim.Native.Nat.{_+_, _*_, _≤_, _<_, min};
 ghost use lib.ListN.{length};
 ghost use Rattle.laws.specs.Sum.{sumTo};
-ghost use Rattle.laws.specs.Filled.{Filled};
-ghost use Rattle.laws.specs.Listed.{plus};
-ghost use Rattle.curve.specs.Needs.{CurveOk};
+ghost use Rattle.laws.specs.Listed.{rowsFrom};
 ghost use Rattle.travel.specs.Needs.{TimeOk};
-ghost use Rattle.hydrograph.specs.InflowRows.{time, ratio, lineAt, onLine, weight, weightAt, weights, totalWeight, runoffAt, volumeOf, part, concentrationGood, peakGood, weightsGood};
-ghost use Rattle.hydrograph.specs.Needs.{product, LineOk, TimingOk, RainOk, Below, RoomOk, mostDepth};
+ghost use Rattle.hydrograph.specs.InflowRows.{time, ratio, lineAt, onLine, weight, weights, totalWeight, volumeOf, concentrationGood, peakGood, weightsGood};
+ghost use Rattle.hydrograph.specs.Needs.{hand, weighed, product, LineOk, TimingOk, PaceOk, PenOk, Below, mostDepth};
 ghost use Rattle.laws.specs.Limits.{mostRows, mostStep, mostArea, mostWeights};
+
+// The weights that are worked out and laid at once.
+pub const HAND: usize = 8;
 
 // A depth for each row, and the one before the first.
 pub const ENTRIES: usize = limits::MOST_ROWS + 1;
@@ -128,48 +129,154 @@ fn wide(x: u32) -> u64
     x as u64
 }
 
-// Puts the weights into a list, the first at place 0, and gives their sum.
-fn fill_weights(peak: u64, step: u64, list: &mut [u32; limits::MOST_WEIGHTS]) -> u64
-    requires { ⌜ TimingOk step peak × (length (now list) ≡ mostWeights) ⌝ }
-    ensures { λ r. ⌜ (r ≡ totalWeight peak step) × Filled (weightAt peak step) (weights peak step) (now (list .exit)) ⌝ }
+// The line on which a time lies, looked for from a line at or before it.
+fn line_from(peak: u64, t: u64, from: usize) -> usize
+    requires { ⌜ (peak ≤ 400000) × ((t ≤ 50 * peak) × (from ≤ lineAt peak t)) ⌝ }
+    ensures { λ r. ⌜ r ≡ lineAt peak t ⌝ }
 {
-    let n = 5 * peak / step;
-    let mut total = 0;
-    let mut j = 0;
-    while j < n {
-        let own = weight(peak, step, j + 1);
-        let at = j as usize;
-        list[at] = own as u32;
-        total += own;
+    let mut i = from;
+    while time_at(i + 1) * peak < t {
+        i += 1;
+    }
+    i
+}
+
+// What a step adds to the value on a line, as quotient and rest by the line's length: `up` lengths and `more`, less `down`
+// lengths, so that a line that falls has no sign to mind.
+struct Pace {
+    up: u64,
+    down: u64,
+    more: u64,
+}
+
+// The pace of a line between two ratios; worked out only where another weight comes before the line's end.
+fn pace_on(left: u64, length: u64, step: u64, y0: u64, y1: u64) -> Pace
+    requires { ⌜ (0 < length) × ((step ≤ mostStep) × ((y0 ≤ 1000) × (y1 ≤ 1000))) ⌝ }
+    ensures { λ r. ⌜ PaceOk left length step y0 y1 r ⌝ }
+{
+    if left < 10 * step {
+        return Pace {
+            up: 0,
+            down: 0,
+            more: 0,
+        };
+    }
+    if y0 <= y1 {
+        let rise = 10000 * step * (y1 - y0);
+        return Pace {
+            up: rise / length,
+            down: 0,
+            more: rise % length,
+        };
+    }
+    let fall = 10000 * step * (y0 - y1);
+    Pace {
+        up: 0,
+        down: fall / length + 1,
+        more: length - fall % length,
+    }
+}
+
+// A pen on the shape's lines: the time of the weight it gives and where its line ends, in tenths of a second; the weight and
+// what its division left over, of 1000 times the line's value times the line's length; and the line's pace.
+struct Pen {
+    time: u64,
+    end: u64,
+    line: usize,
+    weight: u64,
+    rest: u64,
+    length: u64,
+    pace: Pace,
+}
+
+// The pen at a time, from a line at or before it.
+fn pen_at(peak: u64, step: u64, t: u64, from: usize) -> Pen
+    requires { ⌜ TimingOk step peak × ((t ≤ 50 * peak) × (from ≤ lineAt peak t)) ⌝ }
+    ensures { λ r. ⌜ (r .time ≡ t) × PenOk peak step r ⌝ }
+{
+    let line = line_from(peak, t, from);
+    let low = time_at(line) * peak;
+    let end = time_at(line + 1) * peak;
+    let y0 = ratio_at(line);
+    let y1 = ratio_at(line + 1);
+    let length = end - low;
+    let pace = pace_on(end - t, length, step, y0, y1);
+    let value = 1000 * (y0 * (end - t) + y1 * (t - low));
+    Pen {
+        time: t,
+        end,
+        line,
+        weight: value / length,
+        rest: value % length,
+        length,
+        pace,
+    }
+}
+
+// The pen a step on: on its line by addition alone, with the carry; else on a line that follows.
+fn pen_next(pen: Pen, peak: u64, step: u64) -> Pen
+    requires { ⌜ TimingOk step peak × (PenOk peak step pen × (pen .time + 10 * step ≤ 50 * peak)) ⌝ }
+    ensures { λ r. ⌜ (r .time ≡ pen .time + 10 * step) × PenOk peak step r ⌝ }
+{
+    let t = pen.time + 10 * step;
+    if t > pen.end {
+        return pen_at(peak, step, t, pen.line);
+    }
+    let pace = pen.pace;
+    let mut weight = pen.weight + pace.up;
+    let mut rest = pen.rest + pace.more;
+    if rest >= pen.length {
+        weight += 1;
+        rest -= pen.length;
+    }
+    Pen {
+        time: t,
+        end: pen.end,
+        line: pen.line,
+        weight: weight - pace.down,
+        rest,
+        length: pen.length,
+        pace,
+    }
+}
+
+// Puts the weights from the one after the first `done` on into a list, as many as it has places for, 0 past the last; looks
+// for their lines from a line at or before the first of them, and gives the last one's.
+pub fn fill_weights(peak: u64, step: u64, done: usize, from: usize, list: &mut [u32; HAND]) -> usize
+    requires { ⌜ TimingOk step peak × ((done < weights peak step) × ((from ≤ lineAt peak (10 * ((done + 1) * step))) × (length (now list) ≡ hand))) ⌝ }
+    ensures { λ r. ⌜ (r ≡ lineAt peak (10 * (min (done + hand) (weights peak step) * step))) × (now (list .exit) ≡ rowsFrom (weighed peak step) done hand) ⌝ }
+{
+    let count = (5 * peak / step) as usize;
+    let mut pen = pen_at(peak, step, 10 * ((done as u64 + 1) * step), from);
+    list[0] = pen.weight as u32;
+    let mut i = 1;
+    while i < HAND {
+        let mut next = 0;
+        if done + i < count {
+            pen = pen_next(pen, peak, step);
+            next = pen.weight;
+        }
+        list[i] = next as u32;
+        i += 1;
+    }
+    pen.line
+}
+
+// The sum of all weights.
+pub fn total_weight(peak: u64, step: u64) -> u64
+    requires { ⌜ TimingOk step peak ⌝ }
+    ensures { λ r. ⌜ r ≡ totalWeight peak step ⌝ }
+{
+    let count = 5 * peak / step;
+    let mut pen = pen_at(peak, step, 10 * step, 0);
+    let mut total = pen.weight;
+    let mut j = 1;
+    while j < count {
+        pen = pen_next(pen, peak, step);
+        total += pen.weight;
         j += 1;
     }
     total
-}
-
-// Q at t, the runoff of rain entry t on a curve number in tenths, from Q at t - 1, which stays once the rain has ended.
-fn next_depth(tenths: u64, rain: &[u64], t: usize, last: u64) -> u64
-    requires { ⌜ CurveOk tenths × (RainOk (now rain) × (last ≡ runoffAt tenths (now rain) (t - 1))) ⌝ }
-    ensures { λ r. ⌜ r ≡ runoffAt tenths (now (rain .entry)) t ⌝ }
-{
-    if t < rain.len() {
-        runoff::depth(tenths, rain[t])
-    } else {
-        last
-    }
-}
-
-// Puts Q at 0 to Q at the last row into a list.
-fn fill_depths(tenths: u64, rain: &[u64], rows: usize, list: &mut [u32; ENTRIES])
-    requires { ⌜ CurveOk tenths × (RainOk (now rain) × ((rows ≤ mostRows) × (length (now list) ≡ mostRows + 1))) ⌝ }
-    ensures { λ _. ⌜ Filled (runoffAt tenths (now (rain .entry))) (rows + 1) (now (list .exit)) ⌝ }
-{
-    let mut last = 0;
-    let mut t = 0;
-    while t <= rows {
-        last = next_depth(tenths, rain, t, last);
-        list[t] = last as u32;
-        t += 1;
-    }
 }
 
 // The first n weights, each times the depth as many places before k, summed.
@@ -197,34 +304,6 @@ pub fn volume(area: u64, depth: u64) -> u64
     ensures { λ r. ⌜ r ≡ volumeOf area depth ⌝ }
 {
     363 * area * depth / 10000
-}
-
-fn least(a: usize, b: usize) -> usize
-    ensures { λ r. ⌜ r ≡ min a b ⌝ }
-{
-    if a < b { a } else { b }
-}
-
-// Adds a subarea's part, by its curve number in tenths, to each row: its weights and the depths are worked out once, then one
-// sum of products a row.
-pub fn add_parts(tenths: u64, area: u64, peak: u64, step: u64, rain: &[u64], rows: &mut [u64])
-    requires { ⌜ CurveOk tenths × ((area ≤ mostArea) × (TimingOk step peak × (RainOk (now rain) × RoomOk (now rows)))) ⌝ }
-    ensures { λ _. ⌜ now (rows .exit) ≡ plus (part tenths area peak step (now (rain .entry))) 1 (now (rows .entry)) ⌝ }
-{
-    let mut weights = [0u32; limits::MOST_WEIGHTS];
-    let mut depths = [0u32; ENTRIES];
-    let total = fill_weights(peak, step, &mut weights);
-    fill_depths(tenths, rain, rows.len(), &mut depths);
-    let count = (5 * peak / step) as usize;
-    let mut before = 0;
-    let mut i = 0;
-    while i < rows.len() {
-        let sum = dot(&weights, &depths, i + 1, least(count, i + 1));
-        let through = volume(area, sum / total);
-        rows[i] += through - before;
-        before = through;
-        i += 1;
-    }
 }
 
 // Refusal 9 of one Tc, as a test that passes.

@@ -1,1 +1,2 @@
 pub mod Inflow
+pub mod Needs

@@ -1,25 +1,59 @@
 // The inflow rows of a list of subareas. Rain in thousandths of an inch, inflow volumes in thousandths of a cubic foot.
 use refusals::Refusal;
 use subarea::Setup;
+use sums::Numbers;
 ghost use mathlib.Core.Path.{_≡_};
+ghost use mathlib.Core.Bool.{true};
 ghost use Prim.Native.Nat.{ℕ, _≤_};
 ghost use lib.ListN.{length};
 ghost use Rattle.laws.specs.Limits.{mostRows, mostArea};
 ghost use Rattle.laws.specs.Listed.{plus, rowsFrom};
+ghost use Rattle.curve.specs.Needs.{CurveOk};
 ghost use Rattle.hydrograph.specs.Needs.{RainOk, RoomOk};
-ghost use Rattle.subarea.specs.Records.{areaOf};
+ghost use Rattle.subarea.specs.Records.{width, areaOf, patchesPass};
 ghost use Rattle.checks.specs.Site.{basin, found};
 ghost use Rattle.checks.specs.Needs.{RecordOk, ListOk};
+ghost use Rattle.inflow.specs.Needs.{numbersWith, numbersOf, mostVolume};
 ghost use Rattle.inflow.specs.Inflow.{partOf, inflowRows, inflowRefusal, inflowAfter};
+
+// A record's numbers, its time to peak and the sum of its weights being known.
+pub fn numbers_with(own: &[u64], peak: u64, total: u64) -> Numbers
+    requires { ⌜ (length (now own) ≡ width) × (patchesPass (now own) ≡ true) ⌝ }
+    ensures { λ r. ⌜ r ≡ numbersWith (now (own .entry)) peak total ⌝ }
+{
+    let ground = subarea::ground(own);
+    Numbers {
+        tenths: ground.tenths,
+        area: ground.area,
+        peak,
+        total,
+    }
+}
+
+// A record's numbers.
+pub fn numbers(setup: Setup, own: &[u64]) -> Numbers
+    requires { ⌜ RecordOk setup (now own) ⌝ }
+    ensures { λ r. ⌜ r ≡ numbersOf setup (now (own .entry)) ⌝ }
+{
+    let peak = subarea::peak(setup, own);
+    numbers_with(own, peak, hydrograph::total_weight(peak, setup.step))
+}
+
+// All that runs off an area by its curve number in tenths: no more is ever released.
+pub fn most_volume(tenths: u64, area: u64, rain: &[u64]) -> u64
+    requires { ⌜ CurveOk tenths × ((area ≤ mostArea) × RainOk (now rain)) ⌝ }
+    ensures { λ r. ⌜ r ≡ mostVolume tenths area (now (rain .entry)) ⌝ }
+{
+    let last = rain[rain.len() - 1];
+    hydrograph::volume(area, runoff::depth(tenths, last))
+}
 
 // Adds a record's part to each row.
 pub fn add_record(setup: Setup, rain: &[u64], own: &[u64], rows: &mut [u64])
     requires { ⌜ RecordOk setup (now own) × ((areaOf (now own) ≤ mostArea) × (RainOk (now rain) × RoomOk (now rows))) ⌝ }
     ensures { λ _. ⌜ now (rows .exit) ≡ plus (partOf setup (now (rain .entry)) (now (own .entry))) 1 (now (rows .entry)) ⌝ }
 {
-    let ground = subarea::ground(own);
-    let peak = subarea::peak(setup, own);
-    hydrograph::add_parts(ground.tenths, ground.area, peak, setup.step, rain, rows);
+    parts::add_parts(numbers(setup, own), setup.step, rain, 0, rows);
 }
 
 // Turns a list of zeros into the inflow rows.

@@ -35,6 +35,15 @@ unfolding rowsFrom
 rows-same f g k zero h = refl
 rows-same f g k (suc n) h = rw (h k, rows-same f g (k + 1) n h)
 
+-- a list that has a function's values one by one is its rows
+pub rows-are : (f : ℕ → ℕ) (k n : ℕ) (l : List ℕ) → length l ≡ n → ((i : ℕ) → i < n → getD l i 0 ≡ f (k + i)) → l ≡ rowsFrom f k n
+rows-are f k n l long each =
+    ext-getD 0 l (rowsFrom f k n) (long ∙ sym (rows-length f k n)) (λ i h. each i (omega arith) ∙ sym (rows-at f k n i (omega arith)))
+
+-- of functions that agree on these rows
+pub rows-agree : (f g : ℕ → ℕ) (k n : ℕ) → ((i : ℕ) → i < n → f (k + i) ≡ g (k + i)) → rowsFrom f k n ≡ rowsFrom g k n
+rows-agree f g k n h = rows-are g k n (rowsFrom f k n) (rows-length f k n) (λ i l. rows-at f k n i l ∙ h i l)
+
 -- rows of zeros: the first of those left, and none left
 pub zeros-one : (n i : ℕ) → i < n → rowsFrom (λ (j : ℕ). 0) (1 + i) (n - i) ≡ 0 ∷ rowsFrom (λ (j : ℕ). 0) (1 + (i + 1)) (n - (i + 1))
 unfolding rowsFrom

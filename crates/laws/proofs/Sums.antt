@@ -73,3 +73,9 @@ pub sum-swap : (f : ℕ → ℕ → ℕ) (n m : ℕ) → sumTo (λ i. sumTo (λ 
 unfolding sumTo
 sum-swap f zero m = sym (sum-zeros (λ j. 0) 0 m (omega arith) (λ i a b. refl))
 sum-swap f (suc n) m = ap (λ (z : ℕ). z + sumTo (λ j. f n j) m) (sum-swap f n m) ∙ sym (sum-add (λ j. sumTo (λ i. f i j) n) (λ j. f n j) m)
+
+-- a sum in two: its first terms, and those after them
+pub sum-split : (f : ℕ → ℕ) (a b : ℕ) → sumTo f (a + b) ≡ sumTo f a + sumTo (λ i. f (a + i)) b
+unfolding sumTo
+sum-split f a zero = let e : a + 0 ≡ a = omega arith in ap (sumTo f) e ∙ omega arith
+sum-split f a (suc b) = let e : a + suc b ≡ suc (a + b) = omega arith in ap (sumTo f) e ∙ omega (arith, sum-split f a b)

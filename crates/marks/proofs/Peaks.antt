@@ -1,48 +1,92 @@
--- The loop that looks for the peak row: its invariant, and a law for each of its needs. Assumes nothing.
-use mathlib.Core.Path.{_≡_, refl, sym, ap, _∙_}
-use mathlib.Core.Bool.{Bool}
+-- The row asked is the peak row exactly where no row before it is as high and none after it is higher. Assumes nothing.
+use mathlib.Core.Path.{_≡_, refl, sym, ap, _∙_, subst}
+use mathlib.Core.Bool.{Bool, true, false}
+use mathlib.Core.Logic.{⊎-elim}
 use mathlib.Core.List.{List}
-use Prim.Native.Nat.{ℕ, _+_, _≤_, _<_}
+use Prim.Native.Nat.{ℕ, _+_, _-_, _≤_, _<_}
+use native.Mathlib.Nat.{eq-or-lt-of-le}
 use native.Mathlib.Omega.{arith}
-use borrow.Author.Tests.{lt-ltb, le-ltb}
-use lib.ListN.{length}
-use Rattle.laws.specs.Pick.{pick}
+use borrow.Author.Tests.{ltb-true, ltb-false, lt-ltb, le-ltb, eqb-true, eqb-false, eq-eqb, ne-eqb}
+use lib.Dec.{ltb, eqb}
+use lib.ListN.{length, drop, length-drop}
+use lib.Seq.{getD-drop}
 use Rattle.laws.specs.Scan.{scan}
+use Rattle.laws.proofs.Num.{below-or-not}
+use Rattle.laws.proofs.Scans.{scan-is, scan-bad, scan-before, scan-passes, scan-whole}
 use Rattle.rows.specs.Figures.{maxTo, at, peakRow}
-use Rattle.rows.proofs.Keeping.{max-more, peak-more}
+use Rattle.rows.proofs.Keeping.{max-over, max-most}
+use Rattle.marks.specs.Needs.{firstAtLeast}
 
--- of the rows before row i (from 0)
-pub record Peaking (os : List ℕ) (peak row i : ℕ) : Type 0 where
-  pub so-far : i ≤ length os
-  pub greatest : peak ≡ maxTo (at os) i
-  pub first : row ≡ peakRow os i
+-- row i (from 0) is above each row before it, and none after it is higher
+pub record Top (os : List ℕ) (i : ℕ) : Type 0 where
+  pub before : (k : ℕ) → k < i → at os k < at os i
+  pub after : (k : ℕ) → i < k → k < length os → at os k ≤ at os i
 
-module _ (os : List ℕ) where
-  pub peak-start : Peaking os 0 1 0
-  unfolding maxTo scan peakRow
-  peak-start = record { so-far = omega arith; greatest = refl; first = refl }
+module _ (os : List ℕ) (i : ℕ) (l : i < length os) where
+  abbrev n : ℕ
+  n = length os
 
-  module _ {peak row i : ℕ} (f : Peaking os peak row i) (l : i < length os) where
-    -- a row above all before it
-    pub peak-above : peak < at os i → Peaking os (at os i) (i + 1) (i + 1)
-    peak-above u =
-        record {
-          so-far = omega arith;
-          greatest = omega (arith, f .greatest, max-more (at os) i);
-          first = sym (peak-more os i ∙ ap (λ (b : Bool). pick b (i + 1) (peakRow os i)) (lt-ltb (maxTo (at os) i) (at os i) (omega (arith, f .greatest))));
-        }
+  -- the rows after it
+  abbrev later : List ℕ
+  later = drop (i + 1) os
 
-    -- any other
-    pub peak-stays : at os i ≤ peak → Peaking os peak row (i + 1)
-    peak-stays u =
-        record {
-          so-far = omega arith;
-          greatest = omega (arith, f .greatest, max-more (at os) i);
-          first = f .first ∙ sym (peak-more os i ∙ ap (λ (b : Bool). pick b (i + 1) (peakRow os i)) (le-ltb (maxTo (at os) i) (at os i) (omega (arith, f .greatest))));
-        }
+  long : length later ≡ n - (i + 1)
+  long = length-drop (i + 1) os
 
-  -- no row is left
-  pub peak-found : {peak row i : ℕ} → Peaking os peak row i → length os ≤ i → row ≡ peakRow os (length os)
-  peak-found {peak} {row} {i} f l =
-      let all : i ≡ length os = omega (arith, f .so-far) in
-      f .first ∙ ap (peakRow os) all
+  -- such a row is as high as any
+  top-all : Top os i → (k : ℕ) → k < n → at os k ≤ at os i
+  top-all t k u =
+      ⊎-elim (λ (w : k < i). omega (arith, t .before k w))
+      (λ (w : i ≤ k). ⊎-elim (λ (e : i ≡ k). subst (λ (z : ℕ). at os z ≤ at os i) e (omega arith)) (λ (v : i < k). t .after k v u) (eq-or-lt-of-le w))
+      (below-or-not k i)
+
+  -- and it is the peak row
+  pub top-peak : Top os i → i + 1 ≡ peakRow os n
+  unfolding peakRow
+  top-peak t =
+      let e : maxTo (at os) n ≡ at os i = omega (arith, max-over (at os) i n l, max-most (at os) (at os i) n (top-all t)) in
+      let found : scan (λ k. ltb (at os k) (maxTo (at os) n)) n 0 ≡ i
+      = scan-is _ n i (omega (arith, l)) (λ k u. lt-ltb (at os k) (maxTo (at os) n) (omega (arith, e, t .before k u))) (λ u. le-ltb (at os i) (maxTo (at os) n) (omega (arith, e))) in
+      omega (arith, found)
+
+  -- the peak row is such a row
+  pub peak-top : i + 1 ≡ peakRow os n → Top os i
+  unfolding peakRow
+  peak-top e =
+      let good : ℕ → Bool = λ k. ltb (at os k) (maxTo (at os) n) in
+      let found : scan good n 0 ≡ i = omega (arith, e) in
+      let high : maxTo (at os) n ≤ at os i = ltb-false (at os i) (maxTo (at os) n) (subst (λ (z : ℕ). good z ≡ false) found (scan-bad good n 0 (omega (arith, found, l)))) in
+      record {
+        before = λ k u. omega (arith, high, ltb-true (at os k) (maxTo (at os) n) (scan-before good n 0 k (omega arith) (omega (arith, found, u))));
+        after = λ k v u. omega (arith, high, max-over (at os) k n u);
+      }
+
+  -- the first row as high as the peak row is itself
+  pub peak-first : i + 1 ≡ peakRow os n → firstAtLeast os (at os i) ≡ i
+  peak-first e = scan-is _ n i (omega (arith, l)) (λ k u. lt-ltb (at os k) (at os i) (peak-top e .before k u)) (λ u. le-ltb (at os i) (at os i) (omega arith))
+
+  -- no row after it is higher
+  peak-last : i + 1 ≡ peakRow os n → firstAtLeast later (at os i + 1) ≡ n - (i + 1)
+  peak-last e =
+      scan-whole _ (length later) (λ j u. lt-ltb (at later j) (at os i + 1) (omega (arith, getD-drop (i + 1) os j 0, peak-top e .after (i + 1 + j) (omega arith) (omega (arith, u, long)))))
+      ∙ long
+
+  -- a row that both hold of is the peak row
+  both-peak : i ≤ firstAtLeast os (at os i) → firstAtLeast later (at os i + 1) ≡ n - (i + 1) → i + 1 ≡ peakRow os n
+  both-peak e f =
+      top-peak (record {
+        before = λ k u. ltb-true (at os k) (at os i) (scan-before (λ j. ltb (at os j) (at os i)) n 0 k (omega arith) (omega (arith, e, u)));
+        after = λ k v u.
+            let j = k - (i + 1) in
+            let there : i + 1 + (k - (i + 1)) ≡ k = omega (arith, v) in
+            let low = scan-passes (λ z. ltb (at later z) (at os i + 1)) (length later) (omega (arith, f, long)) j (omega (arith, u, v, long)) in
+            omega (arith, ltb-true (at later j) (at os i + 1) low, getD-drop (i + 1) os j 0, ap (at os) there);
+      })
+
+  -- where no row before it is as high, the rows after it decide
+  pub peak-told : i ≤ firstAtLeast os (at os i) → eqb (firstAtLeast later (at os i + 1)) (n - (i + 1)) ≡ eqb (i + 1) (peakRow os n)
+  peak-told e = go (eqb (firstAtLeast later (at os i + 1)) (n - (i + 1))) refl
+    where
+      go : (b : Bool) → eqb (firstAtLeast later (at os i + 1)) (n - (i + 1)) ≡ b → b ≡ eqb (i + 1) (peakRow os n)
+      go true t = sym (eq-eqb (i + 1) (peakRow os n) (both-peak e (eqb-true _ _ t)))
+      go false t = sym (ne-eqb (i + 1) (peakRow os n) (λ q. eqb-false _ _ t (peak-last q)))

@@ -2,9 +2,12 @@
 use mathlib.Core.Path.{_≡_}
 use mathlib.Core.List.{List}
 use Prim.Native.Nat.{ℕ, _+_, _-_, _*_, _/_, _≤_}
+use lib.Dec.{ltb}
 use lib.ListN.{length}
 use Rattle.laws.specs.Limits.{mostStep, lastNumber}
+use Rattle.laws.specs.Scan.{scan}
 use Rattle.pond.specs.Needs.{PondOk}
+use Rattle.rows.specs.Figures.{at}
 use Rattle.rows.specs.Needs.{RowsOk}
 use Rattle.checks.specs.Site.{Rows, asked}
 use Rattle.checks.specs.Needs.{StepOk, LengthsOk}
@@ -14,6 +17,10 @@ use Rattle.marks.specs.declared.MarkAnswer.the-variants.{Refused, Done}
 -- every whole number up to this one is a double itself
 abbrev pub mostExact : ℕ
 mostExact = lastNumber
+
+-- the first row, from 0, whose outflow is o or more, or their number
+abbrev pub firstAtLeast : List ℕ → ℕ → ℕ
+firstAtLeast os o = scan (λ i. ltb (at os i) o) (length os) 0
 
 -- what 1, 2 and 4 leave
 pub record MarkReady (D first : ℕ) (l : Rows) : Type 0 where

@@ -3,16 +3,17 @@
 // thousandths of a ft; rows count from 1.
 use refusals::Refusal;
 ghost use mathlib.Core.Path.{_≡_};
-ghost use Prim.Native.Nat.{_≤_};
+ghost use Prim.Native.Nat.{_+_, _≤_, _<_};
+ghost use lib.Dec.{eqb};
 ghost use lib.ListN.{length};
 ghost use Rattle.laws.specs.Within.{within};
 ghost use Rattle.pond.specs.Needs.{PondOk};
-ghost use Rattle.rows.specs.Figures.{peakRow};
+ghost use Rattle.rows.specs.Figures.{at, peakRow};
 ghost use Rattle.rows.specs.Needs.{RowOk};
 ghost use Rattle.checks.specs.Site.{found};
 ghost use Rattle.refusals.specs.Refusals.{unless, firstRefusal};
 ghost use Rattle.marks.specs.ChartMarks.{doubleOf, markAt, pointAt, markedOf, markLines, markRefusal, markAnswer, markKind, markValues, markRefusalIn, markKindIn, markValuesIn};
-ghost use Rattle.marks.specs.Needs.{mostExact, PointOk, MarkOk};
+ghost use Rattle.marks.specs.Needs.{mostExact, firstAtLeast, PointOk, MarkOk};
 
 // Where a row stands on a chart: its number, the seconds from the start, its outflow.
 pub struct Point {
@@ -47,35 +48,47 @@ fn double(n: u64) -> f64
     n as f64
 }
 
-// The first row with the greatest outflow: a later one must be above it.
-fn peak_row(outflow: &[u64]) -> u64
-    ensures { λ r. ⌜ r ≡ peakRow (now (outflow .entry)) (length (now (outflow .entry))) ⌝ }
+// The first row, from 0, whose outflow is at least flow, or the number of rows: no row after it is looked at.
+fn first_at_least(outflow: &[u64], flow: u64) -> usize
+    ensures { λ r. ⌜ r ≡ firstAtLeast (now (outflow .entry)) flow ⌝ }
 {
-    let mut peak = 0;
-    let mut row = 1;
     let mut i = 0;
     while i < outflow.len() {
-        let own = outflow[i];
-        if peak < own {
-            peak = own;
-            row = i as u64 + 1;
+        if flow <= outflow[i] {
+            return i;
         }
         i += 1;
     }
-    row
+    i
 }
 
-// The first rule that fits: nothing without outflow, also in the peak row; the peak; an outflow.
-fn mark_of(pond: &[u64], half: u64, peak: u64, row: u64, outflow: u64, storage: u64) -> Mark
-    requires { ⌜ PondOk half (now pond) × RowOk half (now pond) outflow storage ⌝ }
-    ensures { λ r. ⌜ r ≡ markAt half (now (pond .entry)) peak row outflow storage ⌝ }
+// Row i, from 0, is the peak row: no row before it is as high, and none after it is higher. The first search ends at row i at
+// the latest.
+fn is_peak(outflow: &[u64], i: usize) -> bool
+    requires { ⌜ (i < length (now outflow)) × (at (now outflow) i ≤ mostExact) ⌝ }
+    ensures { λ r. ⌜ r ≡ eqb (i + 1) (peakRow (now (outflow .entry)) (length (now (outflow .entry)))) ⌝ }
 {
-    if outflow == 0 {
+    let flow = outflow[i];
+    let higher = flow + 1;
+    if first_at_least(outflow, flow) < i {
+        return false;
+    }
+    let next = i + 1;
+    first_at_least(&outflow[next..], higher) == outflow.len() - next
+}
+
+// The first rule that fits: nothing without outflow, also in the peak row; the peak; an outflow. The row is i, from 0.
+fn mark_of(pond: &[u64], half: u64, outflow: &[u64], i: usize, storage: u64) -> Mark
+    requires { ⌜ PondOk half (now pond) × (RowOk half (now pond) (at (now outflow) i) storage × (i < length (now outflow))) ⌝ }
+    ensures { λ r. ⌜ r ≡ markAt half (now (pond .entry)) (peakRow (now (outflow .entry)) (length (now (outflow .entry)))) (i + 1) (at (now (outflow .entry)) i) storage ⌝ }
+{
+    let own = outflow[i];
+    if own == 0 {
         return Mark::Nothing;
     }
-    let flow = double(outflow);
-    if row == peak {
-        let stage = pond::stage_at_sum(pond, half, storage + half * outflow);
+    let flow = double(own);
+    if is_peak(outflow, i) {
+        let stage = pond::stage_at_sum(pond, half, storage + half * own);
         let height = double(stage);
         return Mark::Peak(flow, height);
     }
@@ -110,10 +123,8 @@ fn mark_and_point(
     ensures { λ r. ⌜ r ≡ markedOf step first (now (pond .entry)) (now (outflow .entry)) (now (storage .entry)) row ⌝ }
 {
     let i = (row - 1) as usize;
-    let own = outflow[i];
-    let peak = peak_row(outflow);
-    let mark = mark_of(pond, step / 2, peak, row, own, storage[i]);
-    let point = point_of(step, first, row, own);
+    let mark = mark_of(pond, step / 2, outflow, i, storage[i]);
+    let point = point_of(step, first, row, outflow[i]);
     Marked { mark, point }
 }
 
@@ -143,18 +154,16 @@ fn mark_refusal(
 ) -> Refusal
     ensures { λ r. ⌜ r ≡ markRefusal step first (now (pond .entry)) (found inflow outflow storage) row ⌝ }
 {
-    // All rows are held against the pond, whatever row is asked: the peak is chosen among all.
     let lists = mark_checks(step, first, inflow, outflow, storage);
     if lists.number != 0 {
         return lists;
     }
-    let table = checks::pond_checks(step / 2, pond);
-    if table.number != 0 {
-        return table;
+    let asked = checks::pond_checks(step / 2, pond).or(row_check(row, outflow.len()));
+    if asked.number != 0 {
+        return asked;
     }
-    table
-        .or(row_check(row, outflow.len()))
-        .or(checks::forged_check(step / 2, pond, outflow, storage))
+    // All rows are held against the pond, whatever row is asked: the peak is chosen among all.
+    checks::forged_check(step / 2, pond, outflow, storage)
 }
 
 // The mark of a row: refused by number and place, or done with its mark and its point. Of the inflow list only the length is

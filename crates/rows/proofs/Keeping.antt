@@ -1,5 +1,5 @@
--- The figures of the first rows, one row at a time. Assumes nothing.
-use mathlib.Core.Path.{_≡_, refl, ap}
+-- The tally of the first rows, one row at a time, and the figures that it tells. Assumes nothing.
+use mathlib.Core.Path.{_≡_, refl, sym, ap, subst, _∙_}
 use mathlib.Core.Bool.{Bool}
 use mathlib.Core.Logic.{⊎-elim}
 use mathlib.Core.List.{List}
@@ -7,7 +7,7 @@ use Prim.Native.Nat.{ℕ, zero, suc, _+_, _-_, _≤_, _<_, max}
 use native.Mathlib.Nat.{eq-or-lt-of-le, le-of-suc-le-suc, eq-zero-or-pos}
 use native.Mathlib.Numerals.{add-one}
 use native.Mathlib.Omega.{arith}
-use borrow.Author.Tests.{ltb-true, ltb-false, lt-ltb, le-ltb}
+use borrow.Author.Tests.{ltb-true, ltb-false, lt-ltb, le-ltb, ne-eqb}
 use lib.Dec.{ltb}
 use Rattle.laws.specs.Pick.{pick}
 use Rattle.laws.specs.Scan.{scan}
@@ -15,8 +15,11 @@ use Rattle.laws.specs.Sum.{sumTo}
 use Rattle.laws.proofs.Num.{below-or-not}
 use Rattle.laws.proofs.Sums.{sum-more}
 use Rattle.laws.proofs.Scans.{scan-is, scan-before, scan-bad, scan-most}
-use Rattle.rows.specs.Figures.{maxTo, at, before, releaseAt, peakRow, rowStage, keptTo}
-use Rattle.rows.specs.Needs.{keptWith}
+use Rattle.pond.specs.PondRows.{lastSum, stageAt}
+use Rattle.pond.specs.Needs.{PondOk}
+use Rattle.pond.proofs.Sums.{stage-rise}
+use Rattle.rows.specs.Figures.{maxTo, at, before, releaseAt, peakRow, keptTo}
+use Rattle.rows.specs.Needs.{rowSum, tallyTo, tallyNone, tallyWith, keptOf}
 
 -- one more
 pub max-more : (f : ℕ → ℕ) (n : ℕ) → maxTo f (n + 1) ≡ max (maxTo f n) (f n)
@@ -90,14 +93,59 @@ module _ (os : List ℕ) where
           (λ l. le-ltb (at os (scan (below n) n 0)) (maxTo (at os) (n + 1)) (⊎-elim (λ (m : at os (scan (below n) n 0) < maxTo (at os) n). absurd (here w e m)) (λ (m : maxTo (at os) n ≤ at os (scan (below n) n 0)). omega (arith, e, m)) (below-or-not (at os (scan (below n) n 0)) (maxTo (at os) n)))) in
           rw (le-ltb (maxTo (at os) n) (at os n) w) (omega (arith, found))
 
--- the figures with one row more
-pub kept-more : (h : ℕ) (p : List ℕ) (o : ℕ) (os ss : List ℕ) (n : ℕ)
-    → keptTo h p o os ss (n + 1) ≡ keptWith (keptTo h p o os ss n) h (before o os n) (at os n) (rowStage h p os ss n) (n + 1)
-unfolding keptTo
-kept-more h p o os ss n =
-    rw (sum-more (releaseAt h o os) n, max-more (at os) n, max-more (rowStage h p os ss) n, peak-more os n)
+-- the tally with one row more
+pub tally-more : (h o : ℕ) (vs os ss : List ℕ) (n : ℕ)
+    → tallyTo h o vs os ss (n + 1) ≡ tallyWith (tallyTo h o vs os ss n) h (at vs n) (before o os n) (at os n) (rowSum h os ss n) (n + 1)
+unfolding tallyTo
+tally-more h o vs os ss n =
+    rw (sum-more (at vs) n, sum-more (releaseAt h o os) n, max-more (at os) n, max-more (rowSum h os ss) n, peak-more os n)
 
 -- of no rows
-pub kept-none : (h : ℕ) (p : List ℕ) (o : ℕ) (os ss : List ℕ) → keptTo h p o os ss 0 ≡ record { released = 0; peak = 0; row = 1; stage = 0 }
-unfolding sumTo maxTo scan peakRow keptTo
-kept-none h p o os ss = refl
+pub tally-none : (h o : ℕ) (vs os ss : List ℕ) → tallyTo h o vs os ss 0 ≡ tallyNone
+unfolding sumTo maxTo scan peakRow tallyTo
+tally-none h o vs os ss = refl
+
+module _ {h : ℕ} {p : List ℕ} (ok : PondOk h p) where
+  -- of two X the greater has the greater stage
+  stage-max : (a b : ℕ) → a ≤ lastSum h p → b ≤ lastSum h p → max (stageAt h p a) (stageAt h p b) ≡ stageAt h p (max a b)
+  stage-max a b la lb = ⊎-elim rises falls (below-or-not a b)
+    where
+      rises : a < b → max (stageAt h p a) (stageAt h p b) ≡ stageAt h p (max a b)
+      rises l = let e : max a b ≡ b = omega arith in rw e (omega (arith, stage-rise ok a b (omega arith) lb))
+
+      falls : b ≤ a → max (stageAt h p a) (stageAt h p b) ≡ stageAt h p (max a b)
+      falls l = let e : max a b ≡ a = omega arith in rw e (omega (arith, stage-rise ok b a l la))
+
+  -- so of one number at least the greatest stage is the stage at the greatest
+  pub stage-greatest : (f : ℕ → ℕ) (n : ℕ) → ((i : ℕ) → i < suc n → f i ≤ lastSum h p) → maxTo (λ i. stageAt h p (f i)) (suc n) ≡ stageAt h p (maxTo f (suc n))
+  unfolding maxTo
+  stage-greatest f zero each = let e : max 0 (f 0) ≡ f 0 = omega arith in rw e (omega arith)
+  stage-greatest f (suc n) each =
+      ap (λ (z : ℕ). max z (stageAt h p (f (suc n)))) (stage-greatest f n (λ i l. each i (omega arith)))
+      ∙ stage-max (maxTo f (suc n)) (f (suc n)) (max-most f (lastSum h p) (suc n) (λ i l. each i (omega arith))) (each (suc n) (omega arith))
+
+  -- what a tally tells are the figures of its rows
+  pub kept-told : (o : ℕ) (vs os ss : List ℕ) (n : ℕ) → ((i : ℕ) → i < n → rowSum h os ss i ≤ lastSum h p)
+      → keptOf h p (tallyTo h o vs os ss n) n ≡ keptTo h p o os ss n
+  unfolding keptOf keptTo tallyTo maxTo
+  kept-told o vs os ss zero each = refl
+  kept-told o vs os ss (suc n) each =
+      let top = stage-greatest (rowSum h os ss) n each in
+      rw (ne-eqb (suc n) 0 (omega arith))
+      (λ j. record { released = sumTo (releaseAt h o os) (suc n); peak = maxTo (at os) (suc n); row = peakRow os (suc n); stage = sym top j })
+
+-- the outflow before a row, of rows that agree before it
+before-same : (o : ℕ) (os new : List ℕ) (n : ℕ) → ((i : ℕ) → i < n → at os i ≡ at new i) → before o os n ≡ before o new n
+before-same o os new zero each = refl
+before-same o os new (suc n) each = let back : suc n - 1 ≡ n = omega arith in rw (ne-eqb (suc n) 0 (omega arith), back) (each n (omega arith))
+
+-- the tally of rows that agree
+pub tally-same : (h o : ℕ) (vs os ss newo news : List ℕ) (n : ℕ) → ((i : ℕ) → i < n → at os i ≡ at newo i) → ((i : ℕ) → i < n → at ss i ≡ at news i)
+    → tallyTo h o vs os ss n ≡ tallyTo h o vs newo news n
+tally-same h o vs os ss newo news zero each-o each-s = tally-none h o vs os ss ∙ sym (tally-none h o vs newo news)
+tally-same h o vs os ss newo news (suc n) each-o each-s =
+    let so = tally-same h o vs os ss newo news n (λ i l. each-o i (omega arith)) (λ i l. each-s i (omega arith)) in
+    let flow = before-same o os newo n (λ i l. each-o i (omega arith)) in
+    let one : n + 1 ≡ suc n = add-one n in
+    subst (λ (m : ℕ). tallyTo h o vs os ss m ≡ tallyTo h o vs newo news m) one
+    (tally-more h o vs os ss n ∙ (rw (so, flow, each-o n (omega arith), each-s n (omega arith))) ∙ sym (tally-more h o vs newo news n))

@@ -1,7 +1,10 @@
 pub mod Prefix
+pub mod Totals
 pub mod Columns
 pub mod Keeping
 pub mod Reached
 pub mod Turns
+pub mod Writes
 pub mod Told
+pub mod Dried
 pub mod Answers

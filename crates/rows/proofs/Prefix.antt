@@ -2,7 +2,7 @@
 use mathlib.Core.Path.{_≡_, refl, sym, ap, _∙_}
 use mathlib.Core.Bool.{Bool, true, false}
 use mathlib.Core.List.{List, [], _∷_, _++_, map, map-append}
-use Prim.Native.Nat.{ℕ, zero, suc, _+_, _≤_}
+use Prim.Native.Nat.{ℕ, zero, suc, _+_, _≤_, _<_}
 use native.Mathlib.Omega.{arith}
 use lib.ListN.{length, take, drop, take-append-drop}
 use lib.Dec.{leb}
@@ -69,6 +69,31 @@ module _ (h : ℕ) (p : List ℕ) where
   passed-append st (v ∷ xs) ys e =
       let r = passes st v xs e in
       rw (le-leb (arrived h st v) (lastSum h p) (r .first)) (omega (arith, passed-append (next h p st v) xs ys (r .others)))
+
+  -- and where one of the first goes over
+  pub passed-short : (st : State) (xs ys : List ℕ) → passed h p st xs < length xs → passed h p st (xs ++ ys) ≡ passed h p st xs
+  unfolding passed
+  passed-short st [] ys l = absurd (omega arith)
+  passed-short st (v ∷ xs) ys l = go (leb (arrived h st v) (lastSum h p)) l (passed-short (next h p st v) xs ys)
+    where
+      go : (b : Bool) → pick b (suc (passed h p (next h p st v) xs)) 0 < suc (length xs)
+          → (passed h p (next h p st v) xs < length xs → passed h p (next h p st v) (xs ++ ys) ≡ passed h p (next h p st v) xs)
+          → pick b (suc (passed h p (next h p st v) (xs ++ ys))) 0 ≡ pick b (suc (passed h p (next h p st v) xs)) 0
+      go true q more = ap suc (more (omega arith))
+      go false q more = refl
+
+  -- the rows before the first that goes over pass
+  pub passed-part : (st : State) (k : ℕ) (vs : List ℕ) → k ≤ passed h p st vs → passed h p st (take k vs) ≡ length (take k vs)
+  unfolding passed
+  passed-part st zero vs l = refl
+  passed-part st (suc k) [] l = refl
+  passed-part st (suc k) (v ∷ vs) l = go (leb (arrived h st v) (lastSum h p)) l (passed-part (next h p st v) k vs)
+    where
+      go : (b : Bool) → suc k ≤ pick b (suc (passed h p (next h p st v) vs)) 0
+          → (k ≤ passed h p (next h p st v) vs → passed h p (next h p st v) (take k vs) ≡ length (take k vs))
+          → pick b (suc (passed h p (next h p st v) (take k vs))) 0 ≡ suc (length (take k vs))
+      go true q more = ap suc (more (omega arith))
+      go false q more = absurd (omega arith)
 
   -- the first rows of a list that passes pass
   pub passed-take : (st : State) (k : ℕ) (vs : List ℕ) → passed h p st vs ≡ length vs → passed h p st (take k vs) ≡ length (take k vs)

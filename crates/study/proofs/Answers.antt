@@ -1,21 +1,12 @@
 -- Each promise of this crate allows one answer, and one later content of what it is lent. Assumes nothing.
-use mathlib.Core.Path.{refl}
-use mathlib.Core.List.{List}
-use Prim.Native.Nat.{ℕ}
-use denote.Ref.{now}
 use Rattle.laws.proofs.OneAnswer.{OneAnswer, OneAnswerAnd, same}
 use Rattle.checks.specs.Site.{Rows, rowsNow}
-use Rattle.study.proofs.copy.Kinds as copy-kinds
-use Rattle.study.proofs.copy.Reads as copy-reads
 use Rattle.study.proofs.all_classes.Kinds as all-classes-kinds
 use Rattle.study.proofs.all_classes.Reads as all-classes-reads
 use Rattle.study.proofs.figures_with.Kinds as figures-with-kinds
 use Rattle.study.proofs.figures_with.Reads as figures-with-reads
 use Rattle.study.proofs.run.Kinds as run-kinds
 use Rattle.study.proofs.run.Reads as run-reads
-
-pub copy-one : OneAnswerAnd copy-kinds.ps copy-kinds.r {L = List ℕ} (λ κs s. now (s .1 .0)) copy-reads.Post
-copy-one κs a x y s t p q = (refl, same p q)
 
 pub all-classes-one : OneAnswer all-classes-kinds.ps all-classes-kinds.r all-classes-reads.Post
 all-classes-one κs a x y s t p q = same p q

@@ -1,8 +1,10 @@
 // A study on flat numbers: every input ends with an answer.
 // Units: rain in thousandths of an inch, inflow volumes and storage in thousandths of a cubic foot, outflow in thousandths
 // of a cfs; half is half the step, in seconds.
+mod listed;
+mod over;
+
 use laws::limits;
-use pond::State;
 use refusals::Refusal;
 use rows::RowFigures;
 use subarea::Setup;
@@ -10,15 +12,14 @@ ghost use mathlib.Core.Path.{_≡_};
 ghost use lib.ListN.{length};
 ghost use Rattle.curve.specs.declared.Classes.{Classes};
 ghost use Rattle.pond.specs.PondRows.{empty};
-ghost use Rattle.pond.specs.Needs.{PondOk};
-ghost use Rattle.rows.specs.Routing.{passed};
-ghost use Rattle.rows.specs.Needs.{InflowOk};
-ghost use Rattle.refusals.specs.Refusals.{after};
+ghost use Rattle.rows.specs.Routing.{overRow};
+ghost use Rattle.subarea.specs.Records.{halfOf};
 ghost use Rattle.subarea.specs.Needs.{RecordsOk, AllPatches};
 ghost use Rattle.checks.specs.Site.{siteNow, rowsNow, site, found, left};
 ghost use Rattle.checks.specs.Needs.{SiteOk};
-ghost use Rattle.study.specs.Study.{classesAll, figuresWith, figuresAll, routed, overCheck, studyRefusal, studyAnswer, studyRows, studyValues, studyRefusalIn, studyValuesIn};
-ghost use Rattle.study.specs.Needs.{classesWith, overAnswer, decidedAnswer, decidedRows, ClassesOk, RowsLent};
+ghost use Rattle.inflow.specs.Inflow.{inflowRows, inflowOf};
+ghost use Rattle.study.specs.Study.{classesAll, figuresWith, routed, studyFigures, studyRefusal, studyAnswer, studyRows, studyValues, studyRefusalIn, studyValuesIn};
+ghost use Rattle.study.specs.Needs.{classesWith, decidedAnswer, decidedRows, ClassesOk, Listed};
 
 // The figures of a study: total inflow, total released and the last storage in thousandths of a cubic foot, peak outflow in
 // thousandths of a cfs with the first row that has it (from 1), greatest stage in thousandths of a ft, and the area in each
@@ -40,18 +41,6 @@ pub struct Figures {
 pub enum StudyAnswer {
     Refused(Refusal),
     Done(Figures),
-}
-
-// Copies a list over another of its length.
-pub fn copy(from: &[u64], to: &mut [u64])
-    requires { ⌜ length (now to) ≡ length (now from) ⌝ }
-    ensures { λ _. ⌜ now (to .exit) ≡ now (from .entry) ⌝ }
-{
-    let mut i = 0;
-    while i < from.len() {
-        to[i] = from[i];
-        i += 1;
-    }
 }
 
 // The area of each class over all subareas.
@@ -108,61 +97,40 @@ pub fn figures_with(classes: curve::Classes, own: RowFigures) -> Figures
     }
 }
 
-// Writes rows that all pass, and gives their figures.
+// Writes rows that all pass, and gives their figures. No refusal can follow, so that the outflow and storage lists are worked
+// in until their rows are written.
 fn finish(
-    half: u64,
+    setup: Setup,
+    rain: &[u64],
     subareas: &[u64],
     pond: &[u64],
-    new: &[u64],
+    peaks: &[u32; limits::MOST_SUBAREAS],
+    totals: &[u32; limits::MOST_SUBAREAS],
     inflow: &mut [u64],
     outflow: &mut [u64],
     storage: &mut [u64],
 ) -> Figures
-    requires { ⌜ (RecordsOk (now subareas) × AllPatches (now subareas)) × (PondOk half (now pond) × (InflowOk (now new) × (passed half (now pond) empty (now new) ≡ length (now new)))) ⌝ }
-    requires { ⌜ RowsLent (length (now new)) (rowsNow inflow outflow storage) ⌝ }
-    ensures { λ r. ⌜ r ≡ figuresAll half (now (subareas .entry)) (now (pond .entry)) (now (new .entry)) ⌝ }
-    ensures { λ _. ⌜ left inflow outflow storage ≡ routed half (now (pond .entry)) (now (new .entry)) ⌝ }
+    requires { ⌜ SiteOk (siteNow setup rain subareas pond) (rowsNow inflow outflow storage) × Listed setup (now subareas) (now peaks) (now totals) ⌝ }
+    requires { ⌜ overRow (halfOf setup) (now pond) empty (inflowRows setup (now rain) (now subareas) (length (now inflow))) ≡ 0 ⌝ }
+    ensures { λ r. ⌜ r ≡ studyFigures (site setup rain subareas pond) (found inflow outflow storage) ⌝ }
+    ensures { λ _. ⌜ left inflow outflow storage ≡ routed (halfOf setup) (now (pond .entry)) (inflowOf (site setup rain subareas pond) (found inflow outflow storage)) ⌝ }
 {
-    copy(new, inflow);
-    let empty = State {
-        storage: 0,
-        outflow: 0,
-    };
-    rows::route(pond, half, empty, new, outflow, storage);
-    let own = rows::figures_of(pond, half, new, outflow, storage);
+    listed::fill_rows(
+        setup,
+        rain,
+        subareas,
+        peaks,
+        totals,
+        inflow,
+        outflow,
+        storage,
+    );
+    let own = rows::write_from(pond, setup.step / 2, inflow, outflow, storage, 0);
     figures_with(all_classes(subareas), own)
 }
 
-// Refusal 14, or the rows and their figures. Nothing is written before every row is known to pass.
-fn settle(
-    half: u64,
-    subareas: &[u64],
-    pond: &[u64],
-    new: &[u64],
-    inflow: &mut [u64],
-    outflow: &mut [u64],
-    storage: &mut [u64],
-) -> StudyAnswer
-    requires { ⌜ (RecordsOk (now subareas) × AllPatches (now subareas)) × (PondOk half (now pond) × InflowOk (now new)) ⌝ }
-    requires { ⌜ RowsLent (length (now new)) (rowsNow inflow outflow storage) ⌝ }
-    ensures { λ r. ⌜ r ≡ overAnswer half (now (subareas .entry)) (now (pond .entry)) (now (new .entry)) ⌝ }
-    ensures { λ _. ⌜ left inflow outflow storage ≡ after (overCheck half (now (pond .entry)) (now (new .entry))) (routed half (now (pond .entry)) (now (new .entry))) (found inflow outflow storage) ⌝ }
-{
-    let empty = State {
-        storage: 0,
-        outflow: 0,
-    };
-    let dry = rows::dry_run(pond, half, empty, new);
-    if dry.over != 0 {
-        return StudyAnswer::Refused(Refusal {
-            number: 14,
-            place: dry.over,
-        });
-    }
-    StudyAnswer::Done(finish(half, subareas, pond, new, inflow, outflow, storage))
-}
-
-// What checks 1 to 13 leave to do.
+// What checks 1 to 13 leave to do: refusal 14, or the rows and their figures. Nothing is written before every row is known to
+// pass.
 fn work(
     setup: Setup,
     rain: &[u64],
@@ -176,18 +144,27 @@ fn work(
     ensures { λ r. ⌜ r ≡ decidedAnswer (site setup rain subareas pond) (found inflow outflow storage) ⌝ }
     ensures { λ _. ⌜ left inflow outflow storage ≡ decidedRows (site setup rain subareas pond) (found inflow outflow storage) ⌝ }
 {
-    let m = inflow.len();
-    let mut new = [0u64; limits::MOST_ROWS];
-    inflow::fill(setup, rain, subareas, &mut new[..m]);
-    settle(
-        setup.step / 2,
+    let mut peaks = [0u32; limits::MOST_SUBAREAS];
+    let mut totals = [0u32; limits::MOST_SUBAREAS];
+    listed::list_peaks(setup, subareas, &mut peaks, &mut totals);
+    let over = over::over_row(setup, rain, subareas, pond, &peaks, &totals, inflow.len());
+    if over != 0 {
+        return StudyAnswer::Refused(Refusal {
+            number: 14,
+            place: over,
+        });
+    }
+    StudyAnswer::Done(finish(
+        setup,
+        rain,
         subareas,
         pond,
-        &new[..m],
+        &peaks,
+        &totals,
         inflow,
         outflow,
         storage,
-    )
+    ))
 }
 
 // A study: refused by number and place with every list as it was, or done with the rows written.

@@ -1,5 +1,4 @@
 -- `rows::with_row` meets its contract. Assumes nothing.
-use native.Mathlib.Omega.{arith}
 use borrow.Author.Needs.{needs}
 use Rattle.rows.proofs.with_row.Statement.{statement}
 use Rattle.rows.proofs.with_row.Tie as tie
@@ -10,4 +9,4 @@ returns c = cc
 pub with-row-spec : {M : Type 1} → statement M
 with-row-spec =
     tie.close
-    (tie.spec (λ c. search needs) (λ c. omega (arith, c .pre .release)) (λ c. omega (arith, c .before .pre .release, c .before .pre .released-most)) (λ c κs. search needs) (λ c κs. search needs) (λ c κs. search needs) returns)
+    (tie.spec (λ c. search needs) (λ c. search needs) (λ c. search needs) (λ c. search needs) (λ c κs. search needs) (λ c κs. search needs) (λ c κs. search needs) returns)

@@ -1,0 +1,4 @@
+pub mod Added
+pub mod Through
+pub mod Volumes
+pub mod Answers
