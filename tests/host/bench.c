@@ -6,6 +6,9 @@
 #include <string.h>
 #include <time.h>
 
+#include "dry.h"
+#include "greatest.h"
+#include "plain.h"
 #include "take.h"
 
 enum { ROUNDS = 101 };
@@ -22,6 +25,17 @@ static struct inputs large, typical;
 /* The typical study with sheet, shallow and channel flow in each subarea; and with each of those paths replaced by one
    segment at a given velocity that takes as long. */
 static struct inputs manning, given;
+
+/* The large and the typical study with other ponds. Tight: in proportion, 5 per cent above the least capacity that
+   holds the study; that of an edit, 5 per cent above the least that holds the edited one, too. Ample: the last X_i is
+   above all that runs off. Full: in proportion, so small that it goes over two thirds through the rows, or as late as
+   it can where the pond is fullest before. */
+static struct inputs tight, tight_edit, ample, full, typical_tight, typical_tight_edit;
+
+/* The greatest size, with rain to the last row, so that the pond fills to the end; it holds no more than is needed, so
+   that a search for 14 runs to the last row. A study of the list that the edit leaves, and the edit; and full, as
+   above. */
+static struct inputs longest, longest_edit, longest_full;
 
 /* 24 hours in steps of 180 seconds, most of the rain about noon; four subareas of 15 weights. */
 static void typical_site(struct site *s, struct prng *r)
@@ -105,6 +119,85 @@ static void make_given(void)
         stop("a path and its time give other rows");
 }
 
+/* ---- Other ponds */
+
+/* The row at which the plain engine's study goes over, from 1; past the last where it is done. */
+static size_t over_row(const struct site *s)
+{
+    static struct columns rows;
+    u64 answer[BT_ANSWER_LENGTH];
+    u64 gave = plain_study(s->step, s->first, s->rule, s->rain.at, s->rain.len, s->subareas.at, s->subareas.len,
+                           s->pond.at, s->pond.len, rows.inflow, s->inflow, rows.outflow, s->outflow, rows.storage,
+                           s->storage, answer);
+    if (gave != 0 && gave != BT_REFUSED_FULL)
+        stop("a pond in proportion is refused");
+    return gave == 0 ? s->inflow + 1 : answer[BT_PLACE];
+}
+
+/* The least capacity, in proportion to the pond, with which no row before 'row' goes over. */
+static u64 least_capacity(const struct site *from, size_t row)
+{
+    static struct site s;
+    u64 low = pond_rows(from) * 1000, high = from->pond.at[from->pond.len - 2]; /* too little, and enough */
+    s = *from;
+    while (low + 1 < high) {
+        u64 middle = low + (high - low) / 2;
+        scale_pond(&s, &from->pond, middle);
+        if (over_row(&s) < row)
+            low = middle;
+        else
+            high = middle;
+    }
+    return high;
+}
+
+static u64 tight_capacity(const struct site *from)
+{
+    return least_capacity(from, from->inflow + 1) * 105 / 100;
+}
+
+static void make_tight(struct inputs *to, const struct inputs *from)
+{
+    *to = *from;
+    scale_pond(&to->edit.site, &from->edit.site.pond, tight_capacity(&from->edit.site));
+}
+
+/* The rows stand in the pond that holds both. */
+static void make_tight_edit(struct inputs *to, const struct inputs *from)
+{
+    static struct site after;
+    altered_site(&after, &from->edit);
+    u64 before = tight_capacity(&from->edit.site), edited = tight_capacity(&after);
+    *to = *from;
+    scale_pond(&to->edit.site, &from->edit.site.pond, before < edited ? edited : before);
+    if (stand(&to->edit) != 0)
+        stop("a study that a pond holds is refused");
+}
+
+static void make_ample(struct inputs *to, const struct inputs *from)
+{
+    u64 all = all_inflow(&from->edit.site), *last = pond_row_at(&to->edit.site, pond_rows(&from->edit.site) - 1);
+    *to = *from;
+    if (last[1] <= all)
+        last[1] = all + 1;
+}
+
+static void make_full(struct inputs *to, const struct inputs *from)
+{
+    *to = *from;
+    u64 capacity = least_capacity(&from->edit.site, from->edit.site.inflow * 2 / 3);
+    u64 holds = least_capacity(&from->edit.site, from->edit.site.inflow + 1);
+    scale_pond(&to->edit.site, &from->edit.site.pond, capacity < holds ? capacity : holds - 1);
+}
+
+static void make_longest(void)
+{
+    if (!greatest_edit(&longest_edit.edit, 1, TIGHT))
+        stop("an edit of the greatest size came out otherwise than it should");
+    altered_site(&longest.edit.site, &longest_edit.edit);
+    make_full(&longest_full, &longest);
+}
+
 static void make_all(u64 seed)
 {
     struct prng r = prng_of(seed, 1), same = prng_of(seed, 2), again = same;
@@ -112,6 +205,13 @@ static void make_all(u64 seed)
     make_inputs(&typical, &same, typical_site);
     make_inputs(&manning, &again, manning_site);
     make_given();
+    make_tight(&tight, &large);
+    make_tight_edit(&tight_edit, &large);
+    make_ample(&ample, &large);
+    make_full(&full, &large);
+    make_tight(&typical_tight, &typical);
+    make_tight_edit(&typical_tight_edit, &typical);
+    make_longest();
 }
 
 /* ---- The calls. Those that are repeated leave what they are lent as they found it, or write the same again. */
@@ -194,7 +294,7 @@ static double median(double *times)
     return times[ROUNDS / 2];
 }
 
-/* Microseconds of one call. Nothing is timed that is not done. */
+/* Microseconds of one call. Nothing is timed that is not done, but where the pond is to be full. */
 static double time_of(const struct inputs *in, const struct call_of *c, int repeats)
 {
     c->lend(in);
@@ -202,8 +302,8 @@ static double time_of(const struct inputs *in, const struct call_of *c, int repe
     for (int i = 0; i < repeats; i++)
         c->make(in);
     double end = now();
-    if (call.gave != 0)
-        stop("what is timed was refused");
+    if (call.gave != (in == &full || in == &longest_full ? BT_REFUSED_FULL : 0))
+        stop("what is timed ended otherwise than it should");
     return (end - start) / repeats;
 }
 
@@ -250,16 +350,56 @@ static void print_share(const char *what, const struct call_of *study, int repea
            1 - 1 / median(t.ratio));
 }
 
+/* How far a search for 14 by blocks would run in each pond. */
+static void print_pond(const char *what, const struct inputs *in)
+{
+    static struct columns rows;
+    static struct dry d;
+    const struct site *s = &in->edit.site;
+    size_t over = over_row(s);
+    printf("bench: %-48s last X_i %.3f of all runoff, ", what, (double)pond_top(s) / (double)all_inflow(s));
+    if (over <= s->inflow || study_rows(s, &rows) != 0) {
+        printf("goes over in row %zu of %zu\n", over, s->inflow);
+        return;
+    }
+    dry_study(&d, s, &rows);
+    printf("safe after %zu of %zu blocks of %d rows\n", blocks_run(&d, pond_top(s)), blocks_of(&d), BLOCK);
+}
+
+static void print_ponds(void)
+{
+    print_pond("the pond of the 16 subareas", &large);
+    print_pond("their tight pond", &tight);
+    print_pond("that of their edit", &tight_edit);
+    print_pond("their ample pond", &ample);
+    print_pond("their pond that goes over", &full);
+    print_pond("the pond of the greatest study", &longest);
+    print_pond("its pond that goes over", &longest_full);
+    print_pond("the pond of the 4 subareas", &typical);
+    print_pond("their tight pond", &typical_tight);
+    print_pond("that of their edit", &typical_tight_edit);
+}
+
 void benchmark(u64 seed)
 {
     make_all(seed);
+    print_ponds();
     printf("bench: medians of %d rounds, one process, the same inputs; last, the ratio of the two\n", ROUNDS);
     print_times("a study of 16 subareas, 2,000 rows, 512 weights", &large, &STUDY, &PLAIN_STUDY, 1);
     print_times("an edit of one of the 16", &large, &EDIT, &PLAIN_EDIT, 1);
     print_times("a mark of its last row", &large, &MARK, &PLAIN_MARK, 50);
+    print_times("the study of the 16 with an ample pond", &ample, &STUDY, &PLAIN_STUDY, 1);
+    print_times("the study of the 16 with a tight pond", &tight, &STUDY, &PLAIN_STUDY, 1);
+    print_times("an edit of one of the 16 with a tight pond", &tight_edit, &EDIT, &PLAIN_EDIT, 1);
+    print_times("the study of the 16 refused by 14", &full, &STUDY, &PLAIN_STUDY, 1);
+    print_times("the greatest study, its pond tight to the end", &longest, &STUDY, &PLAIN_STUDY, 1);
+    print_times("an edit of one of its 16", &longest_edit, &EDIT, &PLAIN_EDIT, 1);
+    print_times("the greatest study refused by 14", &longest_full, &STUDY, &PLAIN_STUDY, 1);
     print_times("a study of 4 subareas, 480 rows, 15 weights", &typical, &STUDY, &PLAIN_STUDY, 20);
     print_times("an edit of one of the 4", &typical, &EDIT, &PLAIN_EDIT, 1);
     print_times("a mark of its last row", &typical, &MARK, &PLAIN_MARK, 200);
+    print_times("the study of the 4 with a tight pond", &typical_tight, &STUDY, &PLAIN_STUDY, 20);
+    print_times("an edit of one of the 4 with a tight pond", &typical_tight_edit, &EDIT, &PLAIN_EDIT, 1);
     print_times("that study with sheet and channel segments", &manning, &STUDY, &PLAIN_STUDY, 20);
     print_times("an edit of one of the 4", &manning, &EDIT, &PLAIN_EDIT, 1);
     print_share("the roots of its 12 segments, of the whole study", &STUDY, 20);

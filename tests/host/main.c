@@ -16,6 +16,7 @@
 #include <string.h>
 #include <unistd.h>
 
+#include "aims.h"
 #include "bench.h"
 #include "cases.h"
 #include "edits.h"
@@ -97,6 +98,7 @@ static void run_cases(void)
             random_site("likely", likely_site);
         else
             random_site("hostile", hostile_site);
+    aimed_cases(run.seed); /* last, so that the random ones have the numbers that they had */
 }
 
 static void say_where(int signal_number)
@@ -181,7 +183,7 @@ int main(int count, char **words)
     run_cases();
     bool all = run.only != 0 || print_tally();
     if (!run.only)
-        print_stack(run.seed);
+        hold_stack(run.seed);
     printf("host: %" PRIu64 " cases, %" PRIu64 " differ\n", run.taken, run.differ);
     return run.differ != 0 || wrong != 0 || !all;
 }

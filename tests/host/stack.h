@@ -4,8 +4,9 @@
 
 #include "reference.h"
 
-/* Prints the most bytes below the caller's frame that a call of each function writes to, of a few likely and large
-   ones. */
-void print_stack(u64 seed);
+/* Prints the most stack that a call of each entry takes, of the greatest ones and of a few likely and large ones, and
+   holds it to the entry's bound. Each entry is counted as a case of the run, and one above its bound as a case that
+   differs. */
+void hold_stack(u64 seed);
 
 #endif

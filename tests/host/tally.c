@@ -3,7 +3,20 @@
 #include <inttypes.h>
 #include <stdio.h>
 
+#include "dry.h"
+
 enum { LAST_REFUSAL = BT_REFUSED_RULE };
+
+/* How a search for 14 by blocks ends that finds none: it is not begun, ends with its only block, with the first of
+   several, with one between, with the last. Where it finds one: the first row looked at, one between, the last with
+   inflow. */
+enum { NOT_BEGUN, ONLY_BLOCK, FIRST_BLOCK, LATER_BLOCK, LAST_BLOCK, SEARCH_ENDS };
+enum { OVER_FIRST, OVER_BETWEEN, OVER_LAST, OVER_ROWS };
+
+struct searches {
+    u64 cases, ends[SEARCH_ENDS], over[OVER_ROWS];
+    u64 rows[3]; /* fewer than a block, whole blocks, one more */
+};
 
 static struct {
     u64 study[LAST_REFUSAL + 1], edit[LAST_REFUSAL + 1], mark[LAST_REFUSAL + 1]; /* by refusal number, 0 for done */
@@ -30,6 +43,9 @@ static struct {
     u64 sheet[4];                 /* done edits: no sheet segment, one taken away, one brought, one kept */
     u64 kind[3];                  /* marks that are nothing, an outflow, a peak */
     u64 asked[2];                 /* marks refused with 17 at the row asked, at another */
+    struct searches study_search, edit_search; /* aimed cases */
+    u64 aimed_rain[3];            /* aimed studies, the first subarea: rain shorter than the weights, as long, longer */
+    u64 aimed_from[5];            /* aimed edits: row 1 changes first, another of the first block, later, last; none */
 } tally;
 
 static void count_records(const struct site *s, const struct result *due)
@@ -199,6 +215,87 @@ void count_mark(const struct mark *m, const struct result *due)
         tally.asked[due->answer[BT_PLACE] != m->row]++;
 }
 
+/* ---- Aimed cases */
+
+static void add_parts(const struct site *s, const u64 *record, u64 *rows)
+{
+    u64 parts[ROOM];
+    reference_parts(s->step, s->rain.at, s->rain.len, record, parts, s->inflow);
+    for (size_t k = 0; k < s->inflow; k++)
+        rows[k] += parts[k];
+}
+
+/* Row numbers from 1; 'first' is the first that is looked at. */
+static void count_over(struct searches *t, const u64 *inflow, size_t rows, u64 first, u64 place)
+{
+    while (rows > 1 && inflow[rows - 1] == 0)
+        rows--;
+    t->over[place == first ? OVER_FIRST : place < rows ? OVER_BETWEEN : OVER_LAST]++;
+}
+
+static void count_end(struct searches *t, const struct dry *d, u64 top)
+{
+    size_t run = blocks_run(d, top), all = blocks_of(d);
+    if (run == 0)
+        t->ends[NOT_BEGUN]++;
+    else if (all == 1)
+        t->ends[ONLY_BLOCK]++;
+    else
+        t->ends[run == 1 ? FIRST_BLOCK : run < all ? LATER_BLOCK : LAST_BLOCK]++;
+}
+
+static void count_aimed(struct searches *t, size_t rows)
+{
+    t->cases++;
+    if (rows < BLOCK)
+        t->rows[0]++;
+    else if (rows % BLOCK < 2)
+        t->rows[1 + rows % BLOCK]++;
+}
+
+void count_aimed_study(const struct site *s, const struct result *due)
+{
+    static struct dry d;
+    u64 inflow[ROOM] = { 0 }, n = s->rain.len - 1;
+    u64 weights = 5 * reference_peak(s->step, reference_concentration(s->subareas.at)) / s->step;
+    count_aimed(&tally.study_search, s->inflow);
+    tally.aimed_rain[n < weights ? 0 : n == weights ? 1 : 2]++;
+    for (size_t i = 0; i < subarea_count(s); i++)
+        add_parts(s, s->subareas.at + BT_WIDTH * i, inflow);
+    if (due->gave == BT_REFUSED_FULL)
+        count_over(&tally.study_search, inflow, s->inflow, 1, due->answer[BT_PLACE]);
+    if (due->gave != 0)
+        return;
+    dry_study(&d, s, &due->rows);
+    count_end(&tally.study_search, &d, pond_top(s));
+}
+
+/* The new inflow rows of an edit that passes 16. */
+static void new_inflow(const struct edit *e, u64 *inflow)
+{
+    u64 old[ROOM];
+    const struct site *s = &e->site;
+    reference_parts(s->step, s->rain.at, s->rain.len, s->subareas.at + BT_WIDTH * (e->place - 1), old, s->inflow);
+    for (size_t k = 0; k < s->inflow; k++)
+        inflow[k] = e->found.inflow[k] - old[k];
+    add_parts(s, e->fresh, inflow);
+}
+
+void count_aimed_edit(const struct edit *e, const struct result *due)
+{
+    static struct dry d;
+    u64 inflow[ROOM], m = e->site.inflow, first = would_change(e);
+    count_aimed(&tally.edit_search, m);
+    tally.aimed_from[first == 0 ? 4 : first == 1 ? 0 : first == m ? 3 : first <= BLOCK ? 1 : 2]++;
+    new_inflow(e, inflow);
+    if (due->gave == BT_REFUSED_FULL)
+        count_over(&tally.edit_search, inflow, m, first, due->answer[BT_PLACE]);
+    if (due->gave != 0 || first == 0)
+        return;
+    dry_edit(&d, e, &due->rows, first - 1);
+    count_end(&tally.edit_search, &d, pond_top(&e->site));
+}
+
 /* ---- In print */
 
 static bool all; /* counts printed so far are above 0 */
@@ -285,6 +382,15 @@ static void print_edits(void)
     print_counts("17 before the first changed row, from it on, where none is", tally.row[BT_REFUSED_STANDING], 3);
 }
 
+static void print_aimed(const char *what, const struct searches *t)
+{
+    printf("aimed %s: %" PRIu64 "\n", what, t->cases);
+    print_counts("  done, the search for 14 not begun, ended by its only block, the first, a later one, the last",
+                 t->ends, SEARCH_ENDS);
+    print_counts("  refused with 14 in the first row looked at, between, the last with inflow", t->over, OVER_ROWS);
+    print_counts("  of fewer rows than a block, of whole blocks, of one row more", t->rows, 3);
+}
+
 bool print_tally(void)
 {
     all = true;
@@ -301,6 +407,11 @@ bool print_tally(void)
     print_edits();
     print_counts("marks: nothing, an outflow, a peak", tally.kind, 3);
     print_counts("17 of marks at the row asked, at another", tally.asked, 2);
+    print_aimed("studies", &tally.study_search);
+    print_counts("  rain shorter than the first subarea's weights, as long, longer", tally.aimed_rain, 3);
+    print_aimed("edits", &tally.edit_search);
+    print_counts("  first changed row 1, another of the first block, in a later one, the last, none", tally.aimed_from,
+                 5);
     if (!all)
         printf("something in this table is 0: the cases do not reach it\n");
     return all;

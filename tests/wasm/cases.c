@@ -14,10 +14,12 @@
  */
 #include <inttypes.h>
 #include <stdio.h>
+#include <stdlib.h>
 #include <string.h>
 
 #include "edit.h"
 #include "faults.h"
+#include "greatest.h"
 #include "mark.h"
 
 #define COUNT(a) (sizeof(a) / sizeof *(a))
@@ -276,6 +278,26 @@ static void chains(void)
         }
 }
 
+/* ---- Edits of the greatest size, and studies of the lists that they leave, in an ample pond, a tight one, one that
+   goes over */
+
+static void greatest(struct edit *e)
+{
+    static const size_t changed[] = { 1, BT_MOST_ROWS - 20 };
+    static struct site after;
+    for (size_t i = 0; i < COUNT(changed); i++)
+        for (enum pond pond = AMPLE; pond <= FULL; pond++) {
+            if (!greatest_edit(e, changed[i], pond)) {
+                fprintf(stderr, "wasm: an edit of the greatest size came out otherwise than it should\n");
+                exit(1);
+            }
+            printf("case the greatest size, first changed row %zu\n", changed[i]);
+            altered_site(&after, e);
+            take_study(&after);
+            take_edit(e);
+        }
+}
+
 /* ---- Refusals: each number that a function has */
 
 /* A plain site whose rows stand, and a new record for its subarea 2. */
@@ -433,6 +455,7 @@ int main(void)
     printf("interface %" PRIu64 "\n", bt_interface());
     printf("record %d\n", BT_WIDTH);
     chains();
+    greatest(&e);
     study_faults(&e, &r);
     other_faults(&e, &r);
     segments(&e, &r);

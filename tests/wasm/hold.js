@@ -76,6 +76,7 @@ function call(name, asked) {
     const given = parameters[name](asked);
     if (given.length !== engine[name].length) stop(`${name} takes ${engine[name].length} parameters`);
     called = { name, asked, gave: BigInt.asUintN(64, engine[name](...given)), due: null };
+    lookAtStack(name);
 }
 
 // ---- What is looked at after a call
@@ -164,11 +165,26 @@ function read(text) {
     words[word](...rest);
 }
 
-// ---- The stack: how far down a painted one is written
+// ---- The stack: how far down a painted one is written, by entry. It lies from address 0 on, all of it free at rest.
 
-function deepest() {
-    const stack = new BigUint64Array(memory, 0, STACK / 8);
-    return STACK - 8 * stack.findIndex((word) => word !== PAINT);
+const stack = Buffer.from(memory, 0, STACK);
+const painted = Buffer.from(new BigUint64Array(STACK / 8).fill(PAINT).buffer);
+const deepest = new Map(); // bytes, by entry
+
+// What lies below the deepest call of the entry so far must be paint; where it is not, this call was deeper.
+function lookAtStack(name) {
+    const known = deepest.get(name) ?? 0;
+    const free = STACK - known;
+    if (!stack.subarray(0, free).equals(painted.subarray(0, free))) {
+        const words = new BigUint64Array(memory, 0, STACK / 8);
+        deepest.set(name, STACK - 8 * words.findIndex((word) => word !== PAINT));
+    }
+    stack.set(painted);
+}
+
+function printStack() {
+    for (const name of Object.keys(parameters))
+        console.log(`stack: ${name} takes ${deepest.get(name) ?? 0} of ${STACK} bytes`);
 }
 
 // ---- All of it
@@ -198,7 +214,7 @@ function printTally() {
     return all;
 }
 
-new BigUint64Array(memory, 0, STACK / 8).fill(PAINT);
+stack.set(painted);
 fs.readFileSync(casesPath, "utf8").trimEnd().split("\n").forEach(read);
 line++;
 lookAtCall();
@@ -206,6 +222,6 @@ lookAtCall();
 const all = printTally();
 const calls = [...tally.values()].flatMap((counts) => [...counts.values()]).reduce((a, b) => a + b, 0);
 console.log(`marks of row number ${Number.MAX_SAFE_INTEGER}, as a JavaScript number: ${lastNumbers}`);
-console.log(`stack: the deepest call takes ${deepest()} of ${STACK} bytes`);
+printStack();
 console.log(`wasm: ${calls} calls, ${differ} differ from the native engine`);
 process.exit(all && differ === 0 && lastNumbers > 0 ? 0 : 1);
