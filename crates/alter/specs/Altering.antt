@@ -36,7 +36,7 @@ oldPart x k = partOf (x .setup) (x .rain) (oldRecord (x .subareas) k)
 abbrev pub freshPart : Site → List ℕ → ℕ → ℕ
 freshPart x r = partOf (x .setup) (x .rain) r
 
--- rows from row k on: the old record's part f of each is taken away (exact where 16 passes: `parts-ok` of edit), the new one's g added
+-- rows from row k on: the old record's part f of each is taken away (exact where 16 passes: `swap-fit` of edit), the new one's g added
 unfoldable pub swapped : (ℕ → ℕ) → (ℕ → ℕ) → ℕ → List ℕ → List ℕ
 swapped f g k [] = []
 swapped f g k (v ∷ vs) = (v - f k + g k) ∷ swapped f g (k + 1) vs
