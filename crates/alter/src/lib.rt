@@ -5,7 +5,7 @@ pub mod order;
 
 use sums::Numbers;
 ghost use mathlib.Core.Path.{_≡_};
-ghost use Prim.Native.Nat.{ℕ, _+_, _-_, _≤_, min};
+ghost use Prim.Native.Nat.{ℕ, _+_, _-_, _≤_};
 ghost use lib.ListN.{length};
 ghost use Rattle.laws.specs.Filled.{Filled};
 ghost use Rattle.curve.specs.declared.Classes.{Classes};
@@ -52,12 +52,6 @@ pub fn swap_block(
     parts::add_block(fresh, step, rain, from, rows);
 }
 
-fn least(a: usize, b: usize) -> usize
-    ensures { λ r. ⌜ r ≡ min a b ⌝ }
-{
-    if a < b { a } else { b }
-}
-
 // Writes the new inflow over that found, of rows after row `from`, block by block.
 pub fn swap_rows(
     old: Numbers,
@@ -74,7 +68,7 @@ pub fn swap_rows(
     let m = inflow.len();
     let mut at = 0;
     while at < m {
-        let e = least(at + sums::BLOCK, m);
+        let e = laws::least(at + sums::BLOCK, m);
         swap_in_place(old, fresh, step, rain, from + at, &mut inflow[at..e]);
         at = e;
     }
@@ -90,7 +84,7 @@ pub fn first_swapped(old: Numbers, fresh: Numbers, step: u64, rain: &[u64], infl
     let mut rows = [0u64; sums::BLOCK];
     let mut at = 0;
     while at < m {
-        let e = least(at + sums::BLOCK, m);
+        let e = laws::least(at + sums::BLOCK, m);
         let n = e - at;
         swap_block(old, fresh, step, rain, at, &inflow[at..e], &mut rows[..n]);
         let k = first_changed(&inflow[at..e], &rows[..n]);

@@ -3,7 +3,6 @@ use laws::both;
 use refusals::Refusal;
 use subarea::Setup;
 ghost use mathlib.Core.Path.{_≡_};
-ghost use Prim.Native.Nat.{min};
 ghost use Rattle.checks.specs.Site.{basin, found};
 ghost use Rattle.inflow.specs.Inflow.{inflowAfter};
 ghost use Rattle.textbook.specs.Textbook.{textbookAfter};
@@ -16,17 +15,11 @@ pub struct Verdict {
     pub row: usize,
 }
 
-fn least(a: usize, b: usize) -> usize
-    ensures { λ r. ⌜ r ≡ min a b ⌝ }
-{
-    if a < b { a } else { b }
-}
-
 // How many rows are the same in both lists before the first that is not.
 fn alike(a: &[u64], b: &[u64]) -> usize
     ensures { λ r. ⌜ r ≡ alikeIn (now (a .entry)) (now (b .entry)) ⌝ }
 {
-    let n = least(a.len(), b.len());
+    let n = laws::least(a.len(), b.len());
     let mut i = 0;
     while i < n {
         if a[i] != b[i] {

@@ -4,6 +4,7 @@ pub mod Scans
 pub mod Sums
 pub mod Laying
 pub mod Fill
+pub mod Fronts
 pub mod Listed
 pub mod Flats
 pub mod OneAnswer

@@ -3,7 +3,7 @@ pub mod limits;
 
 ghost use mathlib.Core.Path.{_≡_};
 ghost use mathlib.Core.Bool.{_&&_};
-ghost use Prim.Native.Nat.{ℕ};
+ghost use Prim.Native.Nat.{ℕ, min};
 ghost use lib.ListN.{length};
 ghost use Rattle.laws.specs.Within.{within};
 ghost use Rattle.laws.specs.Listed.{rowsFrom};
@@ -20,6 +20,13 @@ pub fn within(least: u64, x: u64, most: u64) -> bool
     ensures { λ r. ⌜ r ≡ within least x most ⌝ }
 {
     both(least <= x, x <= most)
+}
+
+// The lesser of two.
+pub fn least(a: usize, b: usize) -> usize
+    ensures { λ r. ⌜ r ≡ min a b ⌝ }
+{
+    if a < b { a } else { b }
 }
 
 // Writes zeros over a list.

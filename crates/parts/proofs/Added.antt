@@ -136,13 +136,3 @@ front-room rows ok e l =
   where
     inside : (i : ℕ) → i < e → getD (take e rows) i 0 ≤ 1000000000000000000
     inside i h = rw (getD-take e rows i 0 h) (ok .room i (omega arith))
-
--- the front of a list, once rows are written there: what was written, and as long as was asked
-pub front : (m : ℕ) (ys rest : List ℕ) → length ys ≡ m → take m (ys ++ rest) ≡ ys
-front m ys rest e = take-at ys rest m e
-
-pub front-has : (P : List ℕ → Type 0) (m : ℕ) (ys rest new : List ℕ) → length ys ≡ m → ys ≡ new → P new → P (take m (ys ++ rest))
-front-has P m ys rest new e d h = rw (front m ys rest e, d) h
-
-pub front-long : (P : ℕ → Type 0) (m : ℕ) (l : List ℕ) → m ≤ length l → P m → P (length (take m l))
-front-long P m l h p = rw (length-take-le m l h) p

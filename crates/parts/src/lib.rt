@@ -4,7 +4,7 @@
 use sums::Numbers;
 use sums::depths;
 ghost use mathlib.Core.Path.{_≡_};
-ghost use Prim.Native.Nat.{_+_, _-_, _≤_, min};
+ghost use Prim.Native.Nat.{_+_, _-_, _≤_};
 ghost use lib.ListN.{length};
 ghost use lib.Dec.{eqb};
 ghost use Rattle.laws.specs.Limits.{mostRows};
@@ -14,12 +14,6 @@ ghost use Rattle.hydrograph.specs.InflowRows.{runoffAt, weights};
 ghost use Rattle.hydrograph.specs.Needs.{RainOk, RoomOk};
 ghost use Rattle.sums.specs.Needs.{blockRows, NumbersOk};
 ghost use Rattle.parts.specs.Needs.{partBy, volumeBetween, SumsOk};
-
-fn least(a: usize, b: usize) -> usize
-    ensures { λ r. ⌜ r ≡ min a b ⌝ }
-{
-    if a < b { a } else { b }
-}
 
 // Adds to each row the volume between the sum before it and its own. Where the two are the same nothing is divided.
 fn add_volumes(own: Numbers, sums: &[u64], rows: &mut [u64])
@@ -74,7 +68,7 @@ pub fn add_parts(own: Numbers, step: u64, rain: &[u64], from: usize, rows: &mut 
     let m = rows.len();
     let mut at = 0;
     while at < m {
-        let e = least(at + sums::BLOCK, m);
+        let e = laws::least(at + sums::BLOCK, m);
         add_block(own, step, rain, from + at, &mut rows[at..e]);
         at = e;
     }
@@ -121,7 +115,7 @@ pub fn add_from(
 {
     let count = (5 * own.peak / step) as usize;
     let lead = count + hydrograph::HAND;
-    let end = least(rows.len(), depths::less(rain.len() + count, from));
+    let end = laws::least(rows.len(), depths::less(rain.len() + count, from));
     if end <= lead {
         add_parts(own, step, rain, from, &mut rows[..end]);
         return;

@@ -7,4 +7,5 @@ pub mod Turns
 pub mod Writes
 pub mod Told
 pub mod Dried
+pub mod Coming
 pub mod Answers

@@ -1,9 +1,6 @@
 // A study on flat numbers: every input ends with an answer.
 // Units: rain in thousandths of an inch, inflow volumes and storage in thousandths of a cubic foot, outflow in thousandths
 // of a cfs; half is half the step, in seconds.
-mod listed;
-mod over;
-
 use laws::limits;
 use refusals::Refusal;
 use rows::RowFigures;
@@ -18,8 +15,9 @@ ghost use Rattle.subarea.specs.Needs.{RecordsOk, AllPatches};
 ghost use Rattle.checks.specs.Site.{siteNow, rowsNow, site, found, left};
 ghost use Rattle.checks.specs.Needs.{SiteOk};
 ghost use Rattle.inflow.specs.Inflow.{inflowRows, inflowOf};
+ghost use Rattle.listing.specs.Needs.{Listed};
 ghost use Rattle.study.specs.Study.{classesAll, figuresWith, routed, studyFigures, studyRefusal, studyAnswer, studyRows, studyValues, studyRefusalIn, studyValuesIn};
-ghost use Rattle.study.specs.Needs.{classesWith, decidedAnswer, decidedRows, ClassesOk, Listed};
+ghost use Rattle.study.specs.Needs.{classesWith, decidedAnswer, decidedRows, ClassesOk};
 
 // The figures of a study: total inflow, total released and the last storage in thousandths of a cubic foot, peak outflow in
 // thousandths of a cfs with the first row that has it (from 1), greatest stage in thousandths of a ft, and the area in each
@@ -115,7 +113,7 @@ fn finish(
     ensures { λ r. ⌜ r ≡ studyFigures (site setup rain subareas pond) (found inflow outflow storage) ⌝ }
     ensures { λ _. ⌜ left inflow outflow storage ≡ routed (halfOf setup) (now (pond .entry)) (inflowOf (site setup rain subareas pond) (found inflow outflow storage)) ⌝ }
 {
-    listed::fill_rows(
+    listing::fill_rows(
         setup,
         rain,
         subareas,
@@ -146,8 +144,8 @@ fn work(
 {
     let mut peaks = [0u32; limits::MOST_SUBAREAS];
     let mut totals = [0u32; limits::MOST_SUBAREAS];
-    listed::list_peaks(setup, subareas, &mut peaks, &mut totals);
-    let over = over::over_row(setup, rain, subareas, pond, &peaks, &totals, inflow.len());
+    listing::list_peaks(setup, subareas, &mut peaks, &mut totals);
+    let over = listing::over::over_row(setup, rain, subareas, pond, &peaks, &totals, inflow.len());
     if over != 0 {
         return StudyAnswer::Refused(Refusal {
             number: 14,

@@ -9,11 +9,12 @@ use lib.ListN.{length, drop, replicate, length-append}
 use lib.Seq.{length-take-le}
 use Rattle.laws.specs.Limits.{mostRows}
 use Rattle.laws.specs.Listed.{rowsFrom, plus}
+use Rattle.laws.proofs.Fronts.{front, front-has, front-long}
 use Rattle.laws.proofs.Listed.{rows-length}
 use Rattle.hydrograph.specs.InflowRows.{runoffAt, weights}
 use Rattle.sums.specs.Needs.{blockRows}
 use Rattle.parts.specs.Needs.{partBy, volumeBetween, SumsOk}
-use Rattle.parts.proofs.Added.{plus-nothing, front, front-has, front-long}
+use Rattle.parts.proofs.Added.{plus-nothing}
 use Rattle.parts.proofs.Through.{sumAt, sums-ok, between-parts, still-part}
 use Rattle.parts.proofs.add_block.Statement.{statement}
 use Rattle.parts.proofs.add_block.Tie as tie

@@ -8,12 +8,12 @@ use lib.ListN.{length, take, drop}
 use lib.Seq.{length-take-le}
 use Rattle.laws.specs.Limits.{mostRows}
 use Rattle.laws.specs.Listed.{rowsFrom, plus}
+use Rattle.laws.proofs.Fronts.{front, front-has, front-long}
 use Rattle.laws.proofs.Listed.{rows-length}
 use Rattle.hydrograph.specs.InflowRows.{weights}
 use Rattle.hydrograph.specs.Needs.{mostDepth, Below}
 use Rattle.sums.specs.Needs.{sumIn}
 use Rattle.parts.specs.Needs.{volumeBetween, SumsOk}
-use Rattle.parts.proofs.Added.{front, front-has, front-long}
 use Rattle.parts.proofs.Through.{sumAt, depths, depths-long, depths-below, far-is, sums-ok, between-parts}
 use Rattle.parts.proofs.add_far.Statement.{statement}
 use Rattle.parts.proofs.add_far.Tie as tie

@@ -9,11 +9,12 @@ use lib.ListN.{length, take, drop}
 use lib.Seq.{length-take-le}
 use Rattle.laws.specs.Limits.{mostRows}
 use Rattle.laws.specs.Listed.{plus}
+use Rattle.laws.proofs.Fronts.{front-long}
 use Rattle.hydrograph.specs.Needs.{RainOk, RoomOk}
 use Rattle.hydrograph.proofs.Weights.{weights-most}
 use Rattle.sums.specs.Needs.{NumbersOk}
 use Rattle.parts.specs.Needs.{partBy}
-use Rattle.parts.proofs.Added.{Parted, parted-front, mid-has, parted-turn, parted-end, mid-room, front-room, front-long}
+use Rattle.parts.proofs.Added.{Parted, parted-front, mid-has, parted-turn, parted-end, mid-room, front-room}
 use Rattle.parts.proofs.Through.{many, late-part}
 use Rattle.parts.proofs.add_from.Statement.{statement}
 use Rattle.parts.proofs.add_from.Tie as tie

@@ -1,28 +1,32 @@
--- `study::listed::list_peaks` meets its contract. Assumes nothing.
+-- `listing::list_peaks` meets its contract. Assumes nothing.
 use mathlib.Core.Path.{_≡_, ap, _∙_}
-use Prim.Native.Nat.{ℕ, _-_, _*_, _<_}
+use Prim.Native.Nat.{ℕ, _-_, _*_, _≤_, _<_}
 use native.Mathlib.Omega.{arith}
 use lib.ListN.{length}
 use Rattle.laws.specs.Limits.{mostSubareas}
 use Rattle.hydrograph.specs.InflowRows.{totalWeight}
-use Rattle.subarea.specs.Records.{width, recordAt, peakOf}
+use Rattle.subarea.specs.Records.{width, recordsIn, recordAt, peakOf}
 use Rattle.subarea.proofs.Subareas.{part-is}
-use Rattle.study.proofs.Listing.{peak-narrow, total-narrow, Listing, list-start, list-turn, list-end}
-use Rattle.study.proofs.listed.list_peaks.Statement.{statement}
-use Rattle.study.proofs.listed.list_peaks.Tie as tie
+use Rattle.listing.proofs.Listing.{peak-narrow, total-narrow, Listing, list-start, list-turn, list-end}
+use Rattle.listing.proofs.list_peaks.Statement.{statement}
+use Rattle.listing.proofs.list_peaks.Tie as tie
 
 abbrev Inv-loop : tie.InvT-loop
-Inv-loop g s peaks₀ totals₀ n i₀ peaks totals i = Listing g s peaks totals i
+Inv-loop g s peaks₀ totals₀ n i₀ peaks totals i = Listing g s peaks₀ totals₀ peaks totals i
 
 abbrev μ-loop : tie.MeasureT-loop
 μ-loop g s peaks₀ totals₀ n i₀ peaks totals i = n - i
+
+-- both lists have room for every subarea
+room : (s : tie.Start Inv-loop μ-loop) → (recordsIn (s .args .subareas .now) ≤ length (s .args .peaks .now)) × (recordsIn (s .args .subareas .now) ≤ length (s .args .totals .now))
+room s = (omega (arith, s .pre .1 .0, s .pre .0 .records .most), omega (arith, s .pre .1 .1, s .pre .0 .records .most))
 
 -- a subarea's place in the lists
 few : (c : tie.In-loop Inv-loop μ-loop) → c .before .loop .i < mostSubareas
 few c = omega (arith, c .loop-test .taken, c .before .before .before .pre .0 .records .most)
 
 loop-holds : tie.Need-loop-holds Inv-loop μ-loop
-loop-holds c = let s = c .before in list-start (s .args .setup) (s .args .subareas .now) (s .pre .1 .0) (s .pre .1 .1)
+loop-holds c = let s = c .before in list-start (s .args .setup) (s .args .subareas .now) (s .args .peaks .now) (s .args .totals .now)
 
 peak-requires : tie.Need-peak-requires Inv-loop μ-loop
 peak-requires c κs =
@@ -61,10 +65,12 @@ cast-totals c =
 again : tie.Need-loop-again Inv-loop μ-loop
 again c =
     let s = c .before .before .before .before .before .before in
-    list-turn (s .args .setup) (s .args .subareas .now) (c .before .before .before .before .loop .inv) (omega arith) (s .pre .0 .records .most) (peak-is (c .before)) (total-is c)
+    list-turn (s .args .setup) (s .args .subareas .now) (s .args .peaks .now) (s .args .totals .now) (c .before .before .before .before .loop .inv) (room s .0) (room s .1) (omega arith) (peak-is (c .before)) (total-is c)
 
 returns : tie.Need-returns Inv-loop μ-loop
-returns c = list-end (c .before .before .before .args .setup) (c .before .before .before .args .subareas .now) (c .before .loop .inv) (omega arith)
+returns c =
+    let s = c .before .before .before in
+    list-end (s .args .setup) (s .args .subareas .now) (s .args .peaks .now) (s .args .totals .now) (c .before .loop .inv) (room s .0) (room s .1) (omega arith)
 
 pub list-peaks-spec : {M : Type 1} → statement M
 list-peaks-spec =

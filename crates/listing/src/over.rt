@@ -1,11 +1,12 @@
 // Refusal 14, looked for block by block, and only until no later row can go over.
-use crate::listed;
+use crate::fill_block;
+use crate::most_inflow;
 use laws::limits;
 use pond::State;
 use rows::Tide;
 use subarea::Setup;
 ghost use mathlib.Core.Path.{_≡_};
-ghost use Prim.Native.Nat.{_+_, _≤_, min};
+ghost use Prim.Native.Nat.{_+_, _≤_};
 ghost use Rattle.laws.specs.Limits.{mostRows};
 ghost use Rattle.laws.specs.Listed.{rowsFrom};
 ghost use Rattle.hydrograph.specs.Needs.{RainOk};
@@ -17,7 +18,7 @@ ghost use Rattle.subarea.specs.Records.{halfOf};
 ghost use Rattle.checks.specs.Needs.{ListOk};
 ghost use Rattle.inflow.specs.Inflow.{inflowAt, inflowRows};
 ghost use Rattle.rows.specs.Needs.{tideOf};
-ghost use Rattle.study.specs.Needs.{Listed};
+ghost use Rattle.listing.specs.Needs.{Listed};
 
 // Runs a block of n rows dry, those after row `from`.
 fn dry_block(
@@ -37,19 +38,13 @@ fn dry_block(
     ensures { λ r. ⌜ r ≡ tideOf (halfOf setup) (now (pond .entry)) last (rowsFrom (inflowAt setup (now (rain .entry)) (now (subareas .entry))) (from + 1) n) ⌝ }
 {
     let mut rows = [0u64; sums::BLOCK];
-    listed::fill_block(setup, rain, subareas, peaks, totals, from, &mut rows[..n]);
+    fill_block(setup, rain, subareas, peaks, totals, from, &mut rows[..n]);
     rows::tide_after(pond, setup.step / 2, last, &rows[..n])
-}
-
-fn least(a: usize, b: usize) -> usize
-    ensures { λ r. ⌜ r ≡ min a b ⌝ }
-{
-    if a < b { a } else { b }
 }
 
 // The first of m rows that goes over (from 1), or 0. What the pond holds and all that can still come is more than any later X:
 // once that is not above the last, no row is looked at.
-pub(crate) fn over_row(
+pub fn over_row(
     setup: Setup,
     rain: &[u64],
     subareas: &[u64],
@@ -68,13 +63,13 @@ pub(crate) fn over_row(
         storage: 0,
         outflow: 0,
     };
-    let mut come = listed::most_inflow(setup, rain, subareas);
+    let mut come = most_inflow(setup, rain, subareas);
     let mut from = 0;
     while from < m {
         if pond::arrive(half, last, come) <= top {
             return 0;
         }
-        let n = least(sums::BLOCK, m - from);
+        let n = laws::least(sums::BLOCK, m - from);
         let tide = dry_block(setup, rain, subareas, pond, peaks, totals, last, from, n);
         if tide.over != 0 {
             return from as u64 + tide.over;

@@ -1,4 +1,4 @@
--- `study::over::dry_block` meets its contract. Assumes nothing.
+-- `listing::over::dry_block` meets its contract. Assumes nothing.
 use mathlib.Core.Path.{_≡_, sym, ap, _∙_}
 use mathlib.Core.List.{List}
 use Prim.Native.Nat.{ℕ, _+_, _≤_}
@@ -8,15 +8,15 @@ use lib.ListN.{length, length-take, length-append}
 use lib.Seq.{length-take-le}
 use Rattle.laws.specs.Limits.{mostRows}
 use Rattle.laws.specs.Listed.{rowsFrom}
+use Rattle.laws.proofs.Fronts.{front-long, front, front-has}
 use Rattle.laws.proofs.Listed.{rows-length}
 use Rattle.rows.specs.Needs.{InflowOk, tideOf}
 use Rattle.sums.specs.Needs.{blockRows}
 use Rattle.subarea.specs.Records.{halfOf}
 use Rattle.inflow.specs.Inflow.{inflowAt}
 use Rattle.inflow.proofs.Inflows.{block-ok}
-use Rattle.study.proofs.Fronts.{front-long, front, front-has}
-use Rattle.study.proofs.over.dry_block.Statement.{statement}
-use Rattle.study.proofs.over.dry_block.Tie as tie
+use Rattle.listing.proofs.over.dry_block.Statement.{statement}
+use Rattle.listing.proofs.over.dry_block.Tie as tie
 
 -- the inflow of a row
 abbrev row : tie.Start → ℕ → ℕ

@@ -1,27 +1,35 @@
-// The subareas' times to peak and sums of weights, listed once a study, and the inflow rows made of them: a block, or all of
-// them in lent lists.
+// The subareas' times to peak and sums of weights, listed once a study, and the inflow rows made of them: all in lent lists, or
+// block by block to look for refusal 14.
+// Units: rain in thousandths of an inch, inflow volumes in thousandths of a cubic foot.
+pub mod over;
+
 use laws::limits;
 use subarea::Setup;
+use sums::Numbers;
 ghost use mathlib.Core.Path.{_≡_};
-ghost use Prim.Native.Nat.{_+_, _≤_};
-ghost use lib.ListN.{length};
+ghost use Prim.Native.Nat.{_+_, _≤_, _<_};
+ghost use lib.ListN.{length, getD};
 ghost use Rattle.laws.specs.Limits.{mostRows, mostSubareas};
 ghost use Rattle.laws.specs.Listed.{rowsFrom};
 ghost use Rattle.hydrograph.specs.Needs.{RainOk};
 ghost use Rattle.sums.specs.Needs.{blockRows};
+ghost use Rattle.subarea.specs.Records.{recordsIn, recordAt};
+ghost use Rattle.subarea.specs.Needs.{RecordsOk, AllPatches};
 ghost use Rattle.checks.specs.Needs.{ListOk};
 ghost use Rattle.inflow.specs.Inflow.{inflowAt, inflowRows};
-ghost use Rattle.study.specs.Needs.{Listed, mostOf};
+ghost use Rattle.inflow.specs.Needs.{numbersWith};
+ghost use Rattle.listing.specs.Needs.{peakAt, totalAt, writtenOver, Listed, mostOf};
 
 // Puts each subarea's time to peak and the sum of its weights into lists, the first at place 0.
-pub(crate) fn list_peaks(
+pub fn list_peaks(
     setup: Setup,
     subareas: &[u64],
     peaks: &mut [u32; limits::MOST_SUBAREAS],
     totals: &mut [u32; limits::MOST_SUBAREAS],
 )
     requires { ⌜ ListOk setup (now subareas) × ((length (now peaks) ≡ mostSubareas) × (length (now totals) ≡ mostSubareas)) ⌝ }
-    ensures { λ _. ⌜ Listed setup (now (subareas .entry)) (now (peaks .exit)) (now (totals .exit)) ⌝ }
+    ensures { λ _. ⌜ now (peaks .exit) ≡ writtenOver (peakAt setup (now (subareas .entry))) (recordsIn (now (subareas .entry))) (now (peaks .entry)) ⌝ }
+    ensures { λ _. ⌜ now (totals .exit) ≡ writtenOver (totalAt setup (now (subareas .entry))) (recordsIn (now (subareas .entry))) (now (totals .entry)) ⌝ }
 {
     let n = subareas.len() / subarea::WIDTH;
     let mut i = 0;
@@ -41,8 +49,23 @@ fn wide(x: u32) -> u64
     x as u64
 }
 
+// Subarea i's numbers, as they are listed.
+fn listed_numbers(
+    subareas: &[u64],
+    peaks: &[u32; limits::MOST_SUBAREAS],
+    totals: &[u32; limits::MOST_SUBAREAS],
+    i: usize,
+) -> Numbers
+    requires { ⌜ RecordsOk (now subareas) × (AllPatches (now subareas) × (i < recordsIn (now subareas))) ⌝ }
+    ensures { λ r. ⌜ r ≡ numbersWith (recordAt (now (subareas .entry)) i) (getD (now (peaks .entry)) i 0) (getD (now (totals .entry)) i 0) ⌝ }
+{
+    let a = subarea::WIDTH * i;
+    let e = a + subarea::WIDTH;
+    inflow::numbers_with(&subareas[a..e], wide(peaks[i]), wide(totals[i]))
+}
+
 // Writes the inflow of a block of rows, those after row `from`.
-pub(crate) fn fill_block(
+fn fill_block(
     setup: Setup,
     rain: &[u64],
     subareas: &[u64],
@@ -59,16 +82,14 @@ pub(crate) fn fill_block(
     let n = subareas.len() / subarea::WIDTH;
     let mut i = 0;
     while i < n {
-        let a = subarea::WIDTH * i;
-        let e = a + subarea::WIDTH;
-        let own = inflow::numbers_with(&subareas[a..e], wide(peaks[i]), wide(totals[i]));
+        let own = listed_numbers(subareas, peaks, totals, i);
         parts::add_block(own, setup.step, rain, from, rows);
         i += 1;
     }
 }
 
 // Writes all inflow rows, working in the two other lists, of which nothing is needed any more.
-pub(crate) fn fill_rows(
+pub fn fill_rows(
     setup: Setup,
     rain: &[u64],
     subareas: &[u64],
@@ -87,16 +108,14 @@ pub(crate) fn fill_rows(
     let n = subareas.len() / subarea::WIDTH;
     let mut i = 0;
     while i < n {
-        let a = subarea::WIDTH * i;
-        let e = a + subarea::WIDTH;
-        let own = inflow::numbers_with(&subareas[a..e], wide(peaks[i]), wide(totals[i]));
+        let own = listed_numbers(subareas, peaks, totals, i);
         parts::add_all(own, setup.step, rain, inflow, outflow, storage);
         i += 1;
     }
 }
 
 // All that runs off the subareas: no more ever comes.
-pub(crate) fn most_inflow(setup: Setup, rain: &[u64], subareas: &[u64]) -> u64
+fn most_inflow(setup: Setup, rain: &[u64], subareas: &[u64]) -> u64
     requires { ⌜ ListOk setup (now subareas) × RainOk (now rain) ⌝ }
     ensures { λ r. ⌜ r ≡ mostOf (now (rain .entry)) (now (subareas .entry)) ⌝ }
 {

@@ -1,4 +1,4 @@
--- `study::listed::most_inflow` meets its contract. Assumes nothing.
+-- `listing::most_inflow` meets its contract. Assumes nothing.
 use mathlib.Core.Path.{_≡_, ap, _∙_}
 use mathlib.Core.List.{List}
 use Prim.Native.Nat.{ℕ, _-_, _*_, _<_}
@@ -11,9 +11,9 @@ use Rattle.subarea.specs.Records.{width, recordAt, patches, patchesPass}
 use Rattle.subarea.proofs.Subareas.{part-is}
 use Rattle.inflow.specs.Needs.{mostVolume}
 use Rattle.inflow.proofs.Inflows.{own-numbers}
-use Rattle.study.proofs.Listing.{Running, run-start, run-turn, run-most, run-end}
-use Rattle.study.proofs.listed.most_inflow.Statement.{statement}
-use Rattle.study.proofs.listed.most_inflow.Tie as tie
+use Rattle.listing.proofs.Listing.{Running, run-start, run-turn, run-most, run-end}
+use Rattle.listing.proofs.most_inflow.Statement.{statement}
+use Rattle.listing.proofs.most_inflow.Tie as tie
 
 abbrev Inv-loop : tie.InvT-loop
 Inv-loop rain s n all₀ i₀ all i = Running rain s all i
