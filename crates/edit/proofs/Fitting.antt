@@ -36,10 +36,11 @@ use Rattle.inflow.proofs.Inflows.{part-most, inflow-most}
 use Rattle.alter.specs.Altering.{oldRecord, oldPart, freshPart, swapped, newInflow}
 use Rattle.alter.specs.Needs.{PlaceOk, PartsFit, GroundOk}
 use Rattle.alter.proofs.Swapping.{swapped-length, swapped-at, part-in}
-use Rattle.edit.specs.declared.fit.Fit.{Fit}
-use Rattle.edit.specs.Edit.{inflowFits, firstUnfit}
-use Rattle.edit.specs.Needs.{fitOf, newBy, foundLines, EditOk, SwapFit}
-use Rattle.edit.proofs.Fits.{fits, fit, fit-found, fit-small}
+use Rattle.fitting.specs.declared.Fit.{Fit}
+use Rattle.fitting.specs.Fits.{inflowFits, firstUnfit}
+use Rattle.fitting.specs.Needs.{fitOf}
+use Rattle.fitting.proofs.Fits.{fits, fit, fit-found, fit-small}
+use Rattle.edit.specs.Needs.{newBy, foundLines, EditOk, SwapFit}
 
 module _ (f : ℕ → ℕ) (vs : List ℕ) (all : firstUnfit f vs ≡ length vs) where
   -- every row fits

@@ -5,10 +5,8 @@ pub mod Order
 pub mod Read
 pub mod Signs
 pub mod Changed
-pub mod Fits
 pub mod Fitting
 pub mod Swaps
-pub mod Coming
 pub mod Ready
 pub mod Settling
 pub mod Routed

@@ -24,7 +24,8 @@ use Rattle.alter.specs.Needs.{PlaceOk}
 use Rattle.alter.proofs.Places.{same-or-not, altered-length, altered-here, altered-other}
 use Rattle.alter.proofs.Ready.{placeLines, place-ready}
 use Rattle.edit.specs.declared.EditAnswer.the-variants.{Refused, Done}
-use Rattle.edit.specs.Edit.{inflowFits, unfitOf, overFrom, rowLines, editRefusal, rerouted, newRows, editedOf, editDone, editAnswer, editRows}
+use Rattle.fitting.specs.Fits.{inflowFits}
+use Rattle.edit.specs.Edit.{unfitOf, overFrom, rowLines, editRefusal, rerouted, newRows, editedOf, editDone, editAnswer, editRows}
 
 -- the altered lists are again alike
 module _ (s u : List ℕ) (k : ℕ) (r q : List ℕ) (same : SameRead s u) (fresh : SameRecord r q) (whole : length q ≡ width) (ok : PlaceOk s k r) where

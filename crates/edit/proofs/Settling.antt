@@ -1,15 +1,11 @@
 -- What each group of an edit's refusals decides, and where it leaves the answer to the next: the checks up to 13, 16 and 17, and 14. Assumes nothing.
 use mathlib.Core.Path.{_≡_, sym, _∙_}
 use mathlib.Core.List.{List, [], _∷_}
-use Prim.Native.Nat.{ℕ, _+_, _≤_}
-use native.Mathlib.Omega.{arith}
-use borrow.Author.Tests.{eq-eqb, ne-eqb, ltb-true}
-use lib.Dec.{ltb}
-use lib.ListN.{length, drop}
-use Rattle.laws.proofs.Tests.{by-test}
+use Prim.Native.Nat.{ℕ, _+_}
+use borrow.Author.Tests.{eq-eqb, ne-eqb}
+use lib.ListN.{drop}
 use Rattle.curve.specs.declared.Classes.{Classes}
-use Rattle.pond.specs.declared.State.{State}
-use Rattle.rows.specs.Routing.{passed, overRow, stateBefore}
+use Rattle.rows.specs.Routing.{overRow, stateBefore}
 use Rattle.refusals.specs.declared.Refusal.{Refusal}
 use Rattle.checks.specs.Site.{Site, Rows}
 use Rattle.refusals.specs.Refusals.{refuse, firstAfter, firstRefusal}
@@ -21,12 +17,6 @@ use Rattle.edit.specs.declared.EditAnswer.{EditAnswer}
 use Rattle.edit.specs.declared.EditAnswer.the-variants.{Refused, Done}
 use Rattle.edit.specs.Edit.{overFrom, rowLines, editRefusal, rerouted, editedOf, editAnswer, editRows}
 use Rattle.edit.specs.Needs.{foundLines, settledFrom, settledRowsFrom, rowsRefusal, refitted, refittedRows}
-
--- the row that goes over is one of the rows
-pub over-most : (h : ℕ) (p : List ℕ) (st : State) (vs : List ℕ) → overRow h p st vs ≤ length vs
-unfolding overRow
-over-most h p st vs =
-    by-test (λ (z : ℕ). z ≤ length vs) (ltb (passed h p st vs) (length vs)) (passed h p st vs + 1) 0 (λ t. omega (arith, ltb-true (passed h p st vs) (length vs) t)) (λ t. omega arith)
 
 module _ (h : ℕ) (p : List ℕ) (l : Rows) (ws : List ℕ) (c : Classes) where
   abbrev a : ℕ

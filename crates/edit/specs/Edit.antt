@@ -1,17 +1,14 @@
 -- Document 01, an edit: refusals 16, 17 and 14, the order of all, what an edit answers, and the rows that it leaves.
 -- Letters as in alter's definitions.
-use mathlib.Core.Bool.{Bool, _&&_}
 use mathlib.Core.List.{List, [], _∷_, _++_}
 use Prim.Native.Nat.{ℕ, _+_}
 use lib.IntN.{ℤ, pos, _-ℤ_}
 use lib.ListN.{length, drop}
-use lib.Dec.{leb, eqb}
+use lib.Dec.{eqb}
 use Rattle.laws.specs.Pick.{pick}
-use Rattle.laws.specs.Scan.{scan}
-use Rattle.laws.specs.Limits.{mostInflow}
 use Rattle.curve.specs.declared.Classes.{Classes}
 use Rattle.rows.specs.Routing.{overRow, stateBefore}
-use Rattle.rows.specs.Figures.{at, figuresOf}
+use Rattle.rows.specs.Figures.{figuresOf}
 use Rattle.rows.specs.declared.RowFigures.{RowFigures}
 use Rattle.refusals.specs.declared.Refusal.{Refusal}
 use Rattle.checks.specs.Site.{Site, Rows}
@@ -20,18 +17,12 @@ use Rattle.subarea.specs.Records.{halfOf}
 use Rattle.checks.specs.Order.{forgedLine}
 use Rattle.study.specs.Study.{classesAll, figuresWith, noFigures}
 use Rattle.alter.specs.Altering.{altered, oldPart, newInflowOf, firstChanged, changedRow, outflowsFrom, storagesFrom, editCheckLines}
+use Rattle.fitting.specs.Fits.{firstUnfit}
 use Rattle.edit.specs.declared.Edited.{Edited}
 use Rattle.edit.specs.declared.EditAnswer.{EditAnswer}
 use Rattle.edit.specs.declared.EditAnswer.the-variants.{Refused, Done}
 
--- 16: an inflow row v is not below the old part f, and not above 217,800,000,000
-unfoldable pub inflowFits : ℕ → ℕ → Bool
-inflowFits f v = leb f v && leb v mostInflow
-
--- the first row, from 0, that fails it, or their number; f is the old record's part of a row
-abbrev pub firstUnfit : (ℕ → ℕ) → List ℕ → ℕ
-firstUnfit f vs = scan (λ i. inflowFits (f (i + 1)) (at vs i)) (length vs) 0
-
+-- 16: the first inflow row that does not fit the old record
 abbrev pub unfitOf : Site → Rows → ℕ → Refusal
 unfitOf x l k = firstOf 16 (firstUnfit (oldPart x k) (l .inflow)) (length (l .inflow))
 

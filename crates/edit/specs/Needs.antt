@@ -1,19 +1,16 @@
 -- What contracts ask of an edit's parts, what is left after each group of checks, and proofs use; no rule of document 01 is here.
 use mathlib.Core.Path.{_≡_}
 use mathlib.Core.List.{List, [], _∷_}
-use Prim.Native.Nat.{ℕ, _+_, _-_, _/_, _≤_}
+use Prim.Native.Nat.{ℕ, _/_, _≤_}
 use lib.ListN.{length}
-use Rattle.laws.specs.Scan.{scan}
-use Rattle.laws.specs.Sum.{sumTo}
 use Rattle.curve.specs.declared.Classes.{Classes}
 use Rattle.pond.specs.Needs.{PondOk}
-use Rattle.laws.specs.Limits.{mostRows, mostArea}
+use Rattle.laws.specs.Limits.{mostArea}
 use Rattle.hydrograph.specs.Needs.{RainOk}
 use Rattle.sums.specs.declared.Numbers.{Numbers}
 use Rattle.sums.specs.Needs.{NumbersOk}
 use Rattle.parts.specs.Needs.{partBy}
 use Rattle.rows.specs.Needs.{InflowOk, RowsOk}
-use Rattle.rows.specs.Figures.{at}
 use Rattle.rows.specs.declared.RowFigures.{RowFigures}
 use Rattle.refusals.specs.declared.Refusal.{Refusal}
 use Rattle.checks.specs.Site.{Site, Rows}
@@ -23,33 +20,13 @@ use Rattle.checks.specs.Order.{forgedLine}
 use Rattle.checks.specs.Needs.{RecordOk, SiteOk}
 use Rattle.alter.specs.Altering.{swapped}
 use Rattle.alter.specs.Needs.{PlaceOk, PartsFit}
-use Rattle.edit.specs.declared.fit.Fit.{Fit}
 use Rattle.edit.specs.declared.EditAnswer.{EditAnswer}
 use Rattle.edit.specs.declared.EditAnswer.the-variants.{Refused, Done}
-use Rattle.edit.specs.Edit.{inflowFits, unfitOf, overFrom, rowLines, rerouted, newRows, editedOf, editDone}
-
--- how far rows vs fit parts, p i that of row i from 0: the first row that does not, and what the rows before it leave without them (exact: `fits`)
-abbrev pub fitBy : (ℕ → ℕ) → List ℕ → Fit
-fitBy p vs =
-    record {
-      bad = scan (λ i. inflowFits (p i) (at vs i)) (length vs) 0;
-      left = sumTo (λ i. at vs i - p i) (scan (λ i. inflowFits (p i) (at vs i)) (length vs) 0);
-    }
-
--- of parts f, and of a list of them fs
-abbrev pub fitOf : (ℕ → ℕ) → List ℕ → Fit
-fitOf f vs = fitBy (λ i. f (i + 1)) vs
-
-abbrev pub fitUnder : List ℕ → List ℕ → Fit
-fitUnder fs vs = fitBy (at fs) vs
+use Rattle.edit.specs.Edit.{unfitOf, overFrom, rowLines, rerouted, newRows, editedOf, editDone}
 
 -- the new inflow rows, by the numbers of the old record and the fresh one
 abbrev pub newBy : ℕ → List ℕ → Numbers → Numbers → List ℕ → List ℕ
 newBy D rain old own vs = swapped (partBy D rain old) (partBy D rain own) 1 vs
-
--- those after row `from`
-abbrev pub newAfter : ℕ → List ℕ → Numbers → Numbers → ℕ → List ℕ → List ℕ
-newAfter D rain old own from vs = swapped (partBy D rain old) (partBy D rain own) (from + 1) vs
 
 -- 16 and 17 of an edit
 abbrev pub foundLines : Site → Rows → ℕ → List Refusal
@@ -96,13 +73,3 @@ pub record SwapFit (D : ℕ) (rain p : List ℕ) (old own : Numbers) (l : Rows) 
   pub rows : RowsOk (D / 2) p (l .outflow) (l .storage)
   pub least : 1 ≤ length (l .inflow)
   pub out-long : length (l .outflow) ≡ length (l .inflow)
-
--- rows after row `from` whose new inflow can be worked out and run dry
-pub record TailFit (D : ℕ) (rain p : List ℕ) (old own : Numbers) (from : ℕ) (vs : List ℕ) : Type 0 where
-  pub pond : PondOk (D / 2) p
-  pub raining : RainOk rain
-  pub was : NumbersOk D old
-  pub is : NumbersOk D own
-  pub parted : PartsFit (partBy D rain old) from vs
-  pub new : InflowOk (newAfter D rain old own from vs)
-  pub few : from + length vs ≤ mostRows

@@ -1,9 +1,6 @@
 // An edit on flat numbers: one subarea of a list replaced, and the rows that stand on the list altered to match.
 // Units: rain in thousandths of an inch, inflow volumes and storage in thousandths of a cubic foot, outflow in thousandths
 // of a cfs; half is half the step, in seconds; a place counts the subareas from 1.
-mod fit;
-mod over;
-
 use refusals::Refusal;
 use rows::RowFigures;
 use study::Figures;
@@ -111,7 +108,7 @@ fn settle(
     let a = alter::first_swapped(old, own, step, rain, inflow);
     let state = rows::state_before(outflow, storage, a);
     let come = all - rows::sum_of(&inflow[..a]);
-    let over = over::over_from(old, own, step, rain, pond, state, a, &inflow[a..], come);
+    let over = fitting::over::over_from(old, own, step, rain, pond, state, a, &inflow[a..], come);
     if over != 0 {
         return EditAnswer::Refused(Refusal {
             number: 14,
@@ -153,7 +150,7 @@ fn work(
     let step = setup.step;
     let old = inflow::numbers(setup, &subareas[a..e]);
     let own = inflow::numbers(setup, fresh);
-    let fit = fit::fit_rows(old, step, rain, inflow);
+    let fit = fitting::fit_rows(old, step, rain, inflow);
     let v = Refusal::first_of(16, fit.bad, inflow.len()).or(checks::forged_check(
         step / 2,
         pond,

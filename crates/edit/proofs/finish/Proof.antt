@@ -19,8 +19,9 @@ use Rattle.alter.specs.Altering.{changedAt, outflowsFrom, storagesFrom}
 use Rattle.alter.specs.Needs.{PartsFit}
 use Rattle.alter.proofs.Swapping.{swapped-length}
 use Rattle.checks.specs.Site.{Rows, rowsNow}
+use Rattle.fitting.specs.Needs.{newAfter}
 use Rattle.edit.specs.Edit.{rerouted, figuresIn, told, editedOf}
-use Rattle.edit.specs.Needs.{newBy, newAfter}
+use Rattle.edit.specs.Needs.{newBy}
 use Rattle.edit.proofs.Swaps.{tail-new, tail-fit}
 use Rattle.edit.proofs.Changed.{rows-equal, rows-left, figures-small, changed-most, tail-written}
 use Rattle.edit.proofs.finish.Statement.{statement}

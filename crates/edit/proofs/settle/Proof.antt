@@ -12,15 +12,18 @@ use Rattle.pond.specs.Needs.{StateOk}
 use Rattle.pond.specs.declared.State.{State}
 use Rattle.parts.specs.Needs.{partBy}
 use Rattle.rows.specs.Routing.{overRow, stateBefore, total}
+use Rattle.rows.proofs.Coming.{over-most}
 use Rattle.checks.specs.Site.{Rows, rowsNow}
 use Rattle.refusals.specs.Refusals.{refuse}
 use Rattle.alter.specs.Altering.{firstChanged}
 use Rattle.alter.proofs.Swapping.{swapped-length}
 use Rattle.edit.specs.declared.EditAnswer.the-variants.{Refused, Done}
-use Rattle.edit.specs.Needs.{newBy, newAfter, TailFit}
-use Rattle.edit.proofs.Swaps.{part-inflow, tail-new, tail-fit}
+use Rattle.fitting.specs.Needs.{newAfter, TailFit}
+use Rattle.fitting.proofs.Swaps.{part-inflow}
+use Rattle.edit.specs.Needs.{newBy}
+use Rattle.edit.proofs.Swaps.{tail-new, tail-fit}
 use Rattle.edit.proofs.Changed.{changed-most, changed-total, before-ok}
-use Rattle.edit.proofs.Settling.{over-most, over-stops, over-passes}
+use Rattle.edit.proofs.Settling.{over-stops, over-passes}
 use Rattle.edit.proofs.settle.Statement.{statement}
 use Rattle.edit.proofs.settle.Tie as tie
 

@@ -14,8 +14,9 @@ use Rattle.refusals.proofs.Orders.{joined, scanned, all-pass}
 use Rattle.subarea.proofs.Subareas.{part-is}
 use Rattle.inflow.specs.Needs.{numbersOf}
 use Rattle.alter.specs.Altering.{oldRecord, oldPart, newInflowOf}
-use Rattle.edit.specs.declared.fit.Fit.{Fit}
-use Rattle.edit.specs.Needs.{fitOf, newBy, foundLines}
+use Rattle.fitting.specs.declared.Fit.{Fit}
+use Rattle.fitting.specs.Needs.{fitOf}
+use Rattle.edit.specs.Needs.{newBy, foundLines}
 use Rattle.edit.proofs.Fitting.{numbers-ok, old-ok, ground-ok, swap-fit, all-most}
 use Rattle.edit.proofs.Settling.{rows-stop, rows-pass}
 use Rattle.edit.proofs.work.Statement.{statement}

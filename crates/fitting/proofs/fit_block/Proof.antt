@@ -1,4 +1,4 @@
--- `edit::fit::fit_block` meets its contract. Assumes nothing.
+-- `fitting::fit_block` meets its contract. Assumes nothing.
 use mathlib.Core.Path.{_≡_, sym, _∙_}
 use mathlib.Core.Bool.{true}
 use Prim.Native.Nat.{_-_}
@@ -7,10 +7,10 @@ use borrow.Author.Needs.{needs}
 use borrow.Author.Tests.{not-true, not-false}
 use lib.ListN.{length}
 use Rattle.rows.specs.Figures.{at}
-use Rattle.edit.specs.Edit.{inflowFits}
-use Rattle.edit.proofs.Fits.{Fitting, fits, fit-start, fit-turn, fit-stop, fit-end, fit-small}
-use Rattle.edit.proofs.fit.fit_block.Statement.{statement}
-use Rattle.edit.proofs.fit.fit_block.Tie as tie
+use Rattle.fitting.specs.Fits.{inflowFits}
+use Rattle.fitting.proofs.Fits.{Fitting, fits, fit-start, fit-turn, fit-stop, fit-end, fit-small}
+use Rattle.fitting.proofs.fit_block.Statement.{statement}
+use Rattle.fitting.proofs.fit_block.Tie as tie
 
 abbrev Inv-loop : tie.InvT-loop
 Inv-loop parts inflow left₀ i₀ left i = Fitting (at parts) inflow left i

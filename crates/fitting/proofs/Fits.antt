@@ -19,10 +19,11 @@ use Rattle.laws.proofs.Tests.{both-left, both-right, both-true}
 use Rattle.laws.proofs.Sums.{sum-more, sum-same, sum-most}
 use Rattle.laws.proofs.Scans.{scan-most, scan-same, scan-before, scan-bad, scan-is}
 use Rattle.hydrograph.specs.Needs.{RoomOk}
+use Rattle.sums.specs.Needs.{blockRows}
 use Rattle.rows.specs.Figures.{at}
-use Rattle.edit.specs.declared.fit.Fit.{Fit}
-use Rattle.edit.specs.Edit.{inflowFits}
-use Rattle.edit.specs.Needs.{fitBy}
+use Rattle.fitting.specs.declared.Fit.{Fit}
+use Rattle.fitting.specs.Fits.{inflowFits}
+use Rattle.fitting.specs.Needs.{fitBy}
 
 -- one row
 pub fits : (f v : ℕ) → inflowFits f v ≡ true → (f ≤ v) × (v ≤ mostInflow)
@@ -40,16 +41,16 @@ sum-on f m zero = let e : m + 0 ≡ m = omega arith in rw e (omega arith)
 sum-on f m (suc n) = let e : m + suc n ≡ suc (m + n) = omega arith in rw e (omega (arith, sum-on f m n))
 
 -- the first numbers of a block of zeros leave room, and with parts added they are the parts
-zeros-at : (n i : ℕ) → i < n → n ≤ 31 → at (take n (replicate 31 0)) i ≡ 0
-zeros-at n i l m = getD-take n (replicate 31 0) i 0 l ∙ getD-replicate 31 i 0 0 (omega arith)
+zeros-at : (n i : ℕ) → i < n → n ≤ blockRows → at (take n (replicate blockRows 0)) i ≡ 0
+zeros-at n i l m = getD-take n (replicate blockRows 0) i 0 l ∙ getD-replicate blockRows i 0 0 (omega arith)
 
-pub zeros-room : (n : ℕ) → n ≤ 31 → RoomOk (take n (replicate 31 0))
+pub zeros-room : (n : ℕ) → n ≤ blockRows → RoomOk (take n (replicate blockRows 0))
 zeros-room n m =
-    let long = length-take-le {A = ℕ} n (replicate 31 0) m in
+    let long = length-take-le {A = ℕ} n (replicate blockRows 0) m in
     record { most = omega (arith, long); room = λ i l. rw (zeros-at n i (omega (arith, long)) m) (omega arith) }
 
-pub zeros-plus : (f : ℕ → ℕ) (k n i : ℕ) → i < n → n ≤ 31 → at (plus f k (take n (replicate 31 0))) i ≡ f (k + i)
-zeros-plus f k n i l m = omega (arith, plus-at f k (take n (replicate 31 0)) i (omega (arith, length-take-le {A = ℕ} n (replicate 31 0) m)), zeros-at n i l m)
+pub zeros-plus : (f : ℕ → ℕ) (k n i : ℕ) → i < n → n ≤ blockRows → at (plus f k (take n (replicate blockRows 0))) i ≡ f (k + i)
+zeros-plus f k n i l m = omega (arith, plus-at f k (take n (replicate blockRows 0)) i (omega (arith, length-take-le {A = ℕ} n (replicate blockRows 0) m)), zeros-at n i l m)
 
 -- the rows before row i fit their parts, and `left` is what they leave
 pub record Fitting (p : ℕ → ℕ) (vs : List ℕ) (left i : ℕ) : Type 0 where

@@ -3,13 +3,13 @@ use pond::State;
 use rows::Tide;
 use sums::Numbers;
 ghost use mathlib.Core.Path.{_≡_};
-ghost use Prim.Native.Nat.{_/_, _≤_, min};
+ghost use Prim.Native.Nat.{_/_, _≤_};
 ghost use lib.ListN.{length};
 ghost use Rattle.pond.specs.Needs.{StateOk};
 ghost use Rattle.rows.specs.Routing.{overRow, total};
 ghost use Rattle.rows.specs.Needs.{tideOf};
 ghost use Rattle.sums.specs.Needs.{blockRows};
-ghost use Rattle.edit.specs.Needs.{newAfter, TailFit};
+ghost use Rattle.fitting.specs.Needs.{newAfter, TailFit};
 
 // Runs a block of rows dry with their new inflow, those after row `from`.
 fn dry_block(
@@ -32,14 +32,8 @@ fn dry_block(
     rows::tide_after(pond, step / 2, last, &rows[..n])
 }
 
-fn least(a: usize, b: usize) -> usize
-    ensures { λ r. ⌜ r ≡ min a b ⌝ }
-{
-    if a < b { a } else { b }
-}
-
 // The first row that goes over of those after row `from` (the first of them is 1), or 0; `all` is no less than their new inflow.
-pub(crate) fn over_from(
+pub fn over_from(
     old: Numbers,
     fresh: Numbers,
     step: u64,
@@ -64,7 +58,7 @@ pub(crate) fn over_from(
         if pond::arrive(half, last, come) <= top {
             return 0;
         }
-        let e = least(at + sums::BLOCK, m);
+        let e = laws::least(at + sums::BLOCK, m);
         let tide = dry_block(
             old,
             fresh,

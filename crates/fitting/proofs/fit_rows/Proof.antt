@@ -1,4 +1,4 @@
--- `edit::fit::fit_rows` meets its contract. Assumes nothing.
+-- `fitting::fit_rows` meets its contract. Assumes nothing.
 use mathlib.Core.Path.{_≡_, ap, _∙_}
 use Prim.Native.Nat.{ℕ, _+_, _-_, _≤_}
 use native.Mathlib.Omega.{arith}
@@ -6,9 +6,9 @@ use borrow.Author.Needs.{needs}
 use borrow.Rule.Slice.PartMut.{mid-len}
 use lib.ListN.{length}
 use Rattle.parts.specs.Needs.{partBy}
-use Rattle.edit.proofs.Fits.{Fitting, fit-start, fit-end, block-room, block-turn, block-stop}
-use Rattle.edit.proofs.fit.fit_rows.Statement.{statement}
-use Rattle.edit.proofs.fit.fit_rows.Tie as tie
+use Rattle.fitting.proofs.Fits.{Fitting, fit-start, fit-end, block-room, block-turn, block-stop}
+use Rattle.fitting.proofs.fit_rows.Statement.{statement}
+use Rattle.fitting.proofs.fit_rows.Tie as tie
 
 abbrev Inv-loop : tie.InvT-loop
 Inv-loop old step rain inflow m left₀ at₀ left at = Fitting (λ i. partBy step rain old (i + 1)) inflow left at

@@ -1,14 +1,17 @@
-// Refusals 16 and 17 of an edit, each over all rows as found; half is half the step, in seconds.
+// The rows as an edit finds them, held against the old record's parts for refusal 16; and refusal 14 looked for with their new
+// inflow. Half is half the step, in seconds.
+pub mod over;
+
 use laws::limits;
 use sums::Numbers;
 ghost use mathlib.Core.Path.{_≡_};
-ghost use Prim.Native.Nat.{ℕ, _+_, _≤_, min};
+ghost use Prim.Native.Nat.{ℕ, _+_, _≤_};
 ghost use lib.ListN.{length};
 ghost use Rattle.laws.specs.Limits.{mostRows};
 ghost use Rattle.hydrograph.specs.Needs.{RainOk};
 ghost use Rattle.sums.specs.Needs.{blockRows, NumbersOk};
 ghost use Rattle.parts.specs.Needs.{partBy};
-ghost use Rattle.edit.specs.Needs.{fitBy, fitOf, fitUnder};
+ghost use Rattle.fitting.specs.Needs.{fitBy, fitOf, fitUnder};
 
 // How far rows fit the old record: the first (from 0) that does not, or their number; and what the rows before it leave without
 // the old record's parts.
@@ -46,14 +49,8 @@ fn fit_next(old: Numbers, step: u64, rain: &[u64], from: usize, inflow: &[u64]) 
     fit_block(&rows[..n], inflow)
 }
 
-fn least(a: usize, b: usize) -> usize
-    ensures { λ r. ⌜ r ≡ min a b ⌝ }
-{
-    if a < b { a } else { b }
-}
-
 // 16, looked for block by block.
-pub(crate) fn fit_rows(old: Numbers, step: u64, rain: &[u64], inflow: &[u64]) -> Fit
+pub fn fit_rows(old: Numbers, step: u64, rain: &[u64], inflow: &[u64]) -> Fit
     requires { ⌜ NumbersOk step old × (RainOk (now rain) × (length (now inflow) ≤ mostRows)) ⌝ }
     ensures { λ r. ⌜ r ≡ fitOf (partBy step (now (rain .entry)) old) (now (inflow .entry)) ⌝ }
 {
@@ -61,7 +58,7 @@ pub(crate) fn fit_rows(old: Numbers, step: u64, rain: &[u64], inflow: &[u64]) ->
     let mut left = 0;
     let mut at = 0;
     while at < m {
-        let e = least(at + sums::BLOCK, m);
+        let e = laws::least(at + sums::BLOCK, m);
         let fit = fit_next(old, step, rain, at, &inflow[at..e]);
         left += fit.left;
         if fit.bad < e - at {

@@ -1,4 +1,4 @@
--- `edit::over::dry_block` meets its contract. Assumes nothing.
+-- `fitting::over::dry_block` meets its contract. Assumes nothing.
 use mathlib.Core.Path.{_≡_, sym, ap, _∙_, subst}
 use mathlib.Core.List.{List, _++_}
 use Prim.Native.Nat.{ℕ, _+_, _/_, _≤_}
@@ -7,14 +7,15 @@ use borrow.Author.Needs.{needs}
 use lib.ListN.{length, take, length-append}
 use lib.Seq.{take-at, length-take-le}
 use Rattle.laws.specs.Limits.{mostRows}
+use Rattle.sums.specs.Needs.{blockRows}
 use Rattle.parts.specs.Needs.{partBy}
 use Rattle.rows.specs.Needs.{tideOf, InflowOk}
 use Rattle.alter.proofs.Swapping.{swapped-length}
-use Rattle.edit.proofs.over.dry_block.Statement.{statement}
-use Rattle.edit.proofs.over.dry_block.Tie as tie
+use Rattle.fitting.proofs.over.dry_block.Statement.{statement}
+use Rattle.fitting.proofs.over.dry_block.Tie as tie
 
 -- a block has room in the local list
-short : (s : tie.Start) → length (s .args .inflow .now) ≤ 31
+short : (s : tie.Start) → length (s .args .inflow .now) ≤ blockRows
 short s = s .pre .1 .1
 
 swap-block-requires : tie.Need-swap-block-requires

@@ -1,4 +1,4 @@
--- `edit::fit::fit_next` meets its contract. Assumes nothing.
+-- `fitting::fit_next` meets its contract. Assumes nothing.
 use mathlib.Core.Path.{_≡_, sym, ap, _∙_}
 use mathlib.Core.List.{List, _++_}
 use Prim.Native.Nat.{ℕ, _+_, _≤_}
@@ -7,21 +7,22 @@ use borrow.Author.Needs.{needs}
 use lib.ListN.{length, take, replicate, length-append}
 use lib.Seq.{take-at, length-take-le}
 use Rattle.laws.proofs.Listed.{plus-length}
+use Rattle.sums.specs.Needs.{blockRows}
 use Rattle.parts.specs.Needs.{partBy}
-use Rattle.edit.specs.Needs.{fitUnder}
-use Rattle.edit.proofs.Fits.{fit-same, zeros-room, zeros-plus}
-use Rattle.edit.proofs.fit.fit_next.Statement.{statement}
-use Rattle.edit.proofs.fit.fit_next.Tie as tie
+use Rattle.fitting.specs.Needs.{fitUnder}
+use Rattle.fitting.proofs.Fits.{fit-same, zeros-room, zeros-plus}
+use Rattle.fitting.proofs.fit_next.Statement.{statement}
+use Rattle.fitting.proofs.fit_next.Tie as tie
 
 -- a block has room in the local list
-short : (s : tie.Start) → length (s .args .inflow .now) ≤ 31
+short : (s : tie.Start) → length (s .args .inflow .now) ≤ blockRows
 short s = s .pre .1 .1 .1 .0
 
 add-block-requires : tie.Need-add-block-requires
 add-block-requires c κs =
     let s = c .before .before .before in
     let n = length (s .args .inflow .now) in
-    let long = length-take-le {A = ℕ} n (replicate 31 0) (short s) in
+    let long = length-take-le {A = ℕ} n (replicate blockRows 0) (short s) in
     (s .pre .0, (s .pre .1 .0, (zeros-room n (short s), (omega (arith, long, s .pre .1 .1), (omega (arith, long, short s), omega (arith, long, s .pre .1 .1 .1 .1))))))
 
 -- the function's entry, once the parts are written
