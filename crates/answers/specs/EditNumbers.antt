@@ -2,7 +2,7 @@
 use mathlib.Core.List.{List, [], _∷_, _++_}
 use Prim.Native.Nat.{ℕ}
 use lib.IntN.{ℤ}
-use Rattle.edit.specs.declared.Edited.{Edited}
+use Rattle.rewrite.specs.declared.Edited.{Edited}
 use Rattle.edit.specs.declared.EditAnswer.{EditAnswer}
 use Rattle.edit.specs.Edit.{editRefusalIn, editValuesIn}
 use Rattle.answers.specs.StudyNumbers.{studyNumbers}

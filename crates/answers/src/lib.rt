@@ -1,10 +1,10 @@
 // Answers as arrays of numbers, for hosts in other languages. Each is written whole, refused or done.
 use edit::EditAnswer;
-use edit::Edited;
 use marks::Mark;
 use marks::MarkAnswer;
 use marks::Point;
 use refusals::Refusal;
+use rewrite::Edited;
 use study::Figures;
 use study::StudyAnswer;
 ghost use mathlib.Core.Path.{_≡_};

@@ -40,7 +40,8 @@ use Rattle.fitting.specs.declared.Fit.{Fit}
 use Rattle.fitting.specs.Fits.{inflowFits, firstUnfit}
 use Rattle.fitting.specs.Needs.{fitOf}
 use Rattle.fitting.proofs.Fits.{fits, fit, fit-found, fit-small}
-use Rattle.edit.specs.Needs.{newBy, foundLines, EditOk, SwapFit}
+use Rattle.rewrite.specs.Needs.{newBy, SwapFit}
+use Rattle.edit.specs.Needs.{foundLines, EditOk}
 
 module _ (f : ℕ → ℕ) (vs : List ℕ) (all : firstUnfit f vs ≡ length vs) where
   -- every row fits

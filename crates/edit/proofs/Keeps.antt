@@ -19,12 +19,13 @@ use Rattle.subarea.specs.Records.{halfOf}
 use Rattle.refusals.specs.Refusals.{passes}
 use Rattle.alter.specs.Altering.{oldPart, freshPart, newInflowOf, firstChanged, changedAt, changedRow}
 use Rattle.alter.proofs.Swapping.{swapped-length}
-use Rattle.edit.specs.declared.Edited.{Edited}
+use Rattle.rewrite.specs.declared.Edited.{Edited}
 use Rattle.edit.specs.declared.EditAnswer.{EditAnswer}
 use Rattle.edit.specs.declared.EditAnswer.the-variants.{Refused, Done}
-use Rattle.edit.specs.Edit.{editRefusal, newRows, editedOf, editDone, editAnswer, editRows, editValuesIn}
+use Rattle.rewrite.specs.Rewriting.{editedOf}
+use Rattle.edit.specs.Edit.{editRefusal, newRows, editDone, editAnswer, editRows, editValuesIn}
 use Rattle.edit.specs.Standing.{firstRows}
-use Rattle.edit.proofs.Changed.{rows-equal, changed-most, changed-before, changed-here, changed-front, changed-none}
+use Rattle.rewrite.proofs.Changed.{rows-equal, changed-most, changed-before, changed-here, changed-front, changed-none}
 use Rattle.edit.proofs.Order.{accepted}
 
 -- the number that tells a row, from 1, or none

@@ -3,10 +3,7 @@ pub mod OtherRule
 pub mod Keeps
 pub mod Order
 pub mod Read
-pub mod Signs
-pub mod Changed
 pub mod Fitting
-pub mod Swaps
 pub mod Ready
 pub mod Settling
 pub mod Routed

@@ -25,7 +25,8 @@ use Rattle.alter.proofs.Places.{same-or-not, altered-length, altered-here, alte
 use Rattle.alter.proofs.Ready.{placeLines, place-ready}
 use Rattle.edit.specs.declared.EditAnswer.the-variants.{Refused, Done}
 use Rattle.fitting.specs.Fits.{inflowFits}
-use Rattle.edit.specs.Edit.{unfitOf, overFrom, rowLines, editRefusal, rerouted, newRows, editedOf, editDone, editAnswer, editRows}
+use Rattle.rewrite.specs.Rewriting.{rerouted, editedOf}
+use Rattle.edit.specs.Edit.{unfitOf, overFrom, rowLines, editRefusal, newRows, editDone, editAnswer, editRows}
 
 -- the altered lists are again alike
 module _ (s u : List ℕ) (k : ℕ) (r q : List ℕ) (same : SameRead s u) (fresh : SameRecord r q) (whole : length q ≡ width) (ok : PlaceOk s k r) where

@@ -37,9 +37,10 @@ use Rattle.alter.proofs.Swapping.{new-is}
 use Rattle.edit.specs.declared.EditAnswer.the-variants.{Refused, Done}
 use Rattle.laws.specs.Limits.{mostRows}
 use Rattle.laws.proofs.Listed.{rows-length}
-use Rattle.edit.specs.Edit.{unfitOf, overFrom, editRefusal, rerouted, newRows, figuresIn, editedOf, editDone, editAnswer, editRows}
+use Rattle.rewrite.specs.Rewriting.{rerouted, figuresIn, editedOf}
+use Rattle.edit.specs.Edit.{unfitOf, overFrom, editRefusal, newRows, editDone, editAnswer, editRows}
 use Rattle.edit.specs.Standing.{studyIn, Studied, EditIsStudy}
-use Rattle.edit.proofs.Changed.{rows-equal, changed-most, changed-front}
+use Rattle.rewrite.proofs.Changed.{rows-equal, changed-most, changed-front}
 use Rattle.edit.proofs.Fitting.{fit-all}
 
 -- 14 of rows that begin as rows that all pass: from the first changed row on it is what it is from the start

@@ -15,7 +15,8 @@ use Rattle.refusals.proofs.Orders.{stops, goes-on}
 use Rattle.alter.specs.Altering.{altered, newInflowOf, firstChanged, editCheckLines}
 use Rattle.edit.specs.declared.EditAnswer.{EditAnswer}
 use Rattle.edit.specs.declared.EditAnswer.the-variants.{Refused, Done}
-use Rattle.edit.specs.Edit.{overFrom, rowLines, editRefusal, rerouted, editedOf, editAnswer, editRows}
+use Rattle.rewrite.specs.Rewriting.{rerouted, editedOf}
+use Rattle.edit.specs.Edit.{overFrom, rowLines, editRefusal, editAnswer, editRows}
 use Rattle.edit.specs.Needs.{foundLines, settledFrom, settledRowsFrom, rowsRefusal, refitted, refittedRows}
 
 module _ (h : ℕ) (p : List ℕ) (l : Rows) (ws : List ℕ) (c : Classes) where

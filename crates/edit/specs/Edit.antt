@@ -2,23 +2,21 @@
 -- Letters as in alter's definitions.
 use mathlib.Core.List.{List, [], _∷_, _++_}
 use Prim.Native.Nat.{ℕ, _+_}
-use lib.IntN.{ℤ, pos, _-ℤ_}
+use lib.IntN.{pos}
 use lib.ListN.{length, drop}
 use lib.Dec.{eqb}
 use Rattle.laws.specs.Pick.{pick}
-use Rattle.curve.specs.declared.Classes.{Classes}
 use Rattle.rows.specs.Routing.{overRow, stateBefore}
-use Rattle.rows.specs.Figures.{figuresOf}
-use Rattle.rows.specs.declared.RowFigures.{RowFigures}
 use Rattle.refusals.specs.declared.Refusal.{Refusal}
 use Rattle.checks.specs.Site.{Site, Rows}
 use Rattle.refusals.specs.Refusals.{refuse, none, firstOf, firstRefusal, after}
 use Rattle.subarea.specs.Records.{halfOf}
 use Rattle.checks.specs.Order.{forgedLine}
-use Rattle.study.specs.Study.{classesAll, figuresWith, noFigures}
-use Rattle.alter.specs.Altering.{altered, oldPart, newInflowOf, firstChanged, changedRow, outflowsFrom, storagesFrom, editCheckLines}
+use Rattle.study.specs.Study.{classesAll, noFigures}
+use Rattle.alter.specs.Altering.{altered, oldPart, newInflowOf, firstChanged, editCheckLines}
 use Rattle.fitting.specs.Fits.{firstUnfit}
-use Rattle.edit.specs.declared.Edited.{Edited}
+use Rattle.rewrite.specs.declared.Edited.{Edited}
+use Rattle.rewrite.specs.Rewriting.{rerouted, editedOf}
 use Rattle.edit.specs.declared.EditAnswer.{EditAnswer}
 use Rattle.edit.specs.declared.EditAnswer.the-variants.{Refused, Done}
 
@@ -45,36 +43,9 @@ editLines x l k r = editCheckLines x l k r ++ rowLines x l k r
 unfoldable pub editRefusal : Site → Rows → ℕ → List ℕ → Refusal
 editRefusal x l k r = firstRefusal (editLines x l k r)
 
--- the rows then standing: the new inflow rows, and the pond routed from the first changed row on
-abbrev pub rerouted : ℕ → List ℕ → Rows → List ℕ → Rows
-rerouted h p l ws =
-    let a = firstChanged (l .inflow) ws in
-    record { inflow = ws; outflow = outflowsFrom h p (l .outflow) (l .storage) ws a; storage = storagesFrom h p (l .outflow) (l .storage) ws a }
-
+-- the rows then standing
 abbrev pub newRows : Site → Rows → ℕ → List ℕ → Rows
 newRows x l k r = rerouted (halfOf (x .setup)) (x .pond) l (newInflowOf x l k r)
-
--- the figures of rows
-abbrev pub figuresIn : ℕ → List ℕ → Rows → RowFigures
-figuresIn h p l = figuresOf h p (l .inflow) (l .outflow) (l .storage)
-
--- new less old, with its sign
-abbrev pub change : ℕ → ℕ → ℤ
-change new old = pos new -ℤ pos old
-
--- what is told of new figures f, with class areas c, and old figures o
-abbrev pub told : Classes → RowFigures → RowFigures → ℕ → Edited
-told c f o row =
-    record {
-      figures = figuresWith c f;
-      changed = row;
-      peak = change (f .kept .peak) (o .kept .peak);
-      released = change (f .kept .released) (o .kept .released);
-    }
-
--- of rows l that became rows n: the figures then standing, the first changed row, and the changes
-unfoldable pub editedOf : ℕ → Classes → List ℕ → Rows → Rows → Edited
-editedOf h c p l n = told c (figuresIn h p n) (figuresIn h p l) (changedRow (l .inflow) (n .inflow))
 
 -- the values of a done edit: class areas are those of the altered list
 abbrev pub editDone : Site → Rows → ℕ → List ℕ → Edited

@@ -10,7 +10,7 @@ use Rattle.checks.specs.Site.{Site, Rows, withSubareas}
 use Rattle.subarea.specs.Records.{width, recordsIn, SameRead}
 use Rattle.study.specs.Study.{studyRefusal, studyAnswer, studyRows}
 use Rattle.alter.specs.Altering.{alteredSite}
-use Rattle.edit.specs.declared.Edited.{Edited}
+use Rattle.rewrite.specs.declared.Edited.{Edited}
 use Rattle.edit.specs.declared.EditAnswer.{EditAnswer}
 use Rattle.edit.specs.declared.EditAnswer.the-variants.{Refused, Done}
 use Rattle.edit.specs.Edit.{editAnswer, editRows}

@@ -10,7 +10,7 @@ use Rattle.checks.specs.Site.{Site, Rows}
 use Rattle.study.specs.declared.StudyAnswer.{StudyAnswer}
 use Rattle.study.specs.Study.{studyRefusalIn}
 use Rattle.alter.specs.Altering.{alteredSite}
-use Rattle.edit.specs.declared.Edited.{Edited}
+use Rattle.rewrite.specs.declared.Edited.{Edited}
 use Rattle.edit.specs.declared.EditAnswer.the-variants.{Done}
 use Rattle.edit.specs.Edit.{editAnswer, editRows}
 use Rattle.edit.specs.Standing.{Standing, edited}

@@ -21,7 +21,8 @@ use Rattle.checks.specs.Order.{lengthsGood, stepGood, entriesGood, lastGood, re
 use Rattle.study.specs.Study.{overCheck, studyRefusal, studyAnswer, studyRows}
 use Rattle.alter.specs.Altering.{swapped, firstChanged, placeGood}
 use Rattle.fitting.specs.Fits.{inflowFits}
-use Rattle.edit.specs.Edit.{overFrom, editRefusal, editedOf, editAnswer, editRows}
+use Rattle.rewrite.specs.Rewriting.{editedOf}
+use Rattle.edit.specs.Edit.{overFrom, editRefusal, editAnswer, editRows}
 use Rattle.edit.specs.Standing.{Standing, studied, edited, rewritten, Studied}
 use Rattle.edit.proofs.EditIsStudy.{chain, standing-balance}
 use Rattle.worked.specs.Witness.{parkingBefore, parking, siteOn, siteOf, lent, small, large, earlier, smallFigures, enlarged, lawn, byWholes, Witness}

@@ -13,7 +13,7 @@ use Rattle.checks.specs.Site.{Site, Rows}
 use Rattle.study.specs.declared.Figures.{Figures}
 use Rattle.study.specs.declared.StudyAnswer.the-variants as Study
 use Rattle.study.specs.Study.{studyAnswer, studyRows}
-use Rattle.edit.specs.declared.Edited.{Edited}
+use Rattle.rewrite.specs.declared.Edited.{Edited}
 use Rattle.edit.specs.declared.EditAnswer.the-variants.{Refused, Done}
 use Rattle.edit.specs.Edit.{editAnswer, editRows}
 use Rattle.worked.specs.Lines.{twoRows}

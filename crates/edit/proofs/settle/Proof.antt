@@ -20,9 +20,9 @@ use Rattle.alter.proofs.Swapping.{swapped-length}
 use Rattle.edit.specs.declared.EditAnswer.the-variants.{Refused, Done}
 use Rattle.fitting.specs.Needs.{newAfter, TailFit}
 use Rattle.fitting.proofs.Swaps.{part-inflow}
-use Rattle.edit.specs.Needs.{newBy}
-use Rattle.edit.proofs.Swaps.{tail-new, tail-fit}
-use Rattle.edit.proofs.Changed.{changed-most, changed-total, before-ok}
+use Rattle.rewrite.specs.Needs.{newBy}
+use Rattle.rewrite.proofs.Swaps.{tail-new, tail-fit}
+use Rattle.rewrite.proofs.Changed.{changed-most, changed-total, before-ok}
 use Rattle.edit.proofs.Settling.{over-stops, over-passes}
 use Rattle.edit.proofs.settle.Statement.{statement}
 use Rattle.edit.proofs.settle.Tie as tie

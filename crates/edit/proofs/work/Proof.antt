@@ -16,7 +16,8 @@ use Rattle.inflow.specs.Needs.{numbersOf}
 use Rattle.alter.specs.Altering.{oldRecord, oldPart, newInflowOf}
 use Rattle.fitting.specs.declared.Fit.{Fit}
 use Rattle.fitting.specs.Needs.{fitOf}
-use Rattle.edit.specs.Needs.{newBy, foundLines}
+use Rattle.rewrite.specs.Needs.{newBy}
+use Rattle.edit.specs.Needs.{foundLines}
 use Rattle.edit.proofs.Fitting.{numbers-ok, old-ok, ground-ok, swap-fit, all-most}
 use Rattle.edit.proofs.Settling.{rows-stop, rows-pass}
 use Rattle.edit.proofs.work.Statement.{statement}

@@ -1,4 +1,4 @@
--- `edit::finish` meets its contract: only the tails are lent onward. Assumes nothing.
+-- `rewrite::finish` meets its contract: only the tails are lent onward. Assumes nothing.
 use mathlib.Core.Path.{_≡_, sym, ap, _∙_, subst}
 use mathlib.Core.List.{List}
 use Prim.Native.Nat.{ℕ, _+_, _-_, _/_, _≤_}
@@ -20,12 +20,12 @@ use Rattle.alter.specs.Needs.{PartsFit}
 use Rattle.alter.proofs.Swapping.{swapped-length}
 use Rattle.checks.specs.Site.{Rows, rowsNow}
 use Rattle.fitting.specs.Needs.{newAfter}
-use Rattle.edit.specs.Edit.{rerouted, figuresIn, told, editedOf}
-use Rattle.edit.specs.Needs.{newBy}
-use Rattle.edit.proofs.Swaps.{tail-new, tail-fit}
-use Rattle.edit.proofs.Changed.{rows-equal, rows-left, figures-small, changed-most, tail-written}
-use Rattle.edit.proofs.finish.Statement.{statement}
-use Rattle.edit.proofs.finish.Tie as tie
+use Rattle.rewrite.specs.Rewriting.{rerouted, figuresIn, told, editedOf}
+use Rattle.rewrite.specs.Needs.{newBy}
+use Rattle.rewrite.proofs.Swaps.{tail-new, tail-fit}
+use Rattle.rewrite.proofs.Changed.{rows-equal, rows-left, figures-small, changed-most, tail-written}
+use Rattle.rewrite.proofs.finish.Statement.{statement}
+use Rattle.rewrite.proofs.finish.Tie as tie
 
 abbrev l : tie.Start → Rows
 l s = rowsNow (s .args .inflow) (s .args .outflow) (s .args .storage)

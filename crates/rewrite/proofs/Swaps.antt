@@ -13,7 +13,7 @@ use Rattle.alter.specs.Altering.{swapped}
 use Rattle.alter.specs.Needs.{PartsFit}
 use Rattle.fitting.specs.Needs.{newAfter, TailFit}
 use Rattle.fitting.proofs.Swaps.{swapped-drop, part-parts}
-use Rattle.edit.specs.Needs.{newBy, SwapFit}
+use Rattle.rewrite.specs.Needs.{newBy, SwapFit}
 
 -- the rows from row a on leave their parts to be taken away
 parts-tail : (f : ℕ → ℕ) (a : ℕ) (vs : List ℕ) → PartsFit f 0 vs → a ≤ length vs → PartsFit f a (drop a vs)

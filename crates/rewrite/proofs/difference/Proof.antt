@@ -1,12 +1,12 @@
--- `edit::difference` meets its contract: the bits of each figure read as signed are the figure, and the difference fits. Assumes nothing.
+-- `rewrite::difference` meets its contract: the bits of each figure read as signed are the figure, and the difference fits. Assumes nothing.
 use mathlib.Core.Path.{_∙_}
 use native.Mathlib.Omega.{arith}
 use mir.Syntax.{w64}
 use mir.ValLaws.{toZ-pos, toZ-ofZ}
 use borrow.Author.Needs.{needs}
-use Rattle.edit.proofs.Signs.{differ}
-use Rattle.edit.proofs.difference.Statement.{statement}
-use Rattle.edit.proofs.difference.Tie as tie
+use Rattle.rewrite.proofs.Signs.{differ}
+use Rattle.rewrite.proofs.difference.Statement.{statement}
+use Rattle.rewrite.proofs.difference.Tie as tie
 
 sub : tie.Need-sub-result
 sub c =

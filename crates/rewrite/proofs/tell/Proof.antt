@@ -1,11 +1,11 @@
--- `edit::tell` meets its contract. Assumes nothing.
+-- `rewrite::tell` meets its contract. Assumes nothing.
 use borrow.Author.Needs.{needs}
 use mir.Syntax.{w64}
 use mir.ValLaws.{toZ-ofZ}
-use Rattle.edit.specs.Edit.{change}
-use Rattle.edit.proofs.Signs.{differ}
-use Rattle.edit.proofs.tell.Statement.{statement}
-use Rattle.edit.proofs.tell.Tie as tie
+use Rattle.rewrite.specs.Rewriting.{change}
+use Rattle.rewrite.proofs.Signs.{differ}
+use Rattle.rewrite.proofs.tell.Statement.{statement}
+use Rattle.rewrite.proofs.tell.Tie as tie
 
 returns : tie.Need-returns
 returns c =

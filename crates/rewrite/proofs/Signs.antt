@@ -9,7 +9,7 @@ use lib.IntN.{ℤ, pos, negsuc, _-ℤ_}
 use lib.Signed.{mag}
 use mir.Syntax.{w64}
 use mir.Val.{SFits}
-use Rattle.edit.specs.Edit.{change}
+use Rattle.rewrite.specs.Rewriting.{change}
 
 -- a difference of two figures, each at most 10^18, fits 64 bits with its sign
 either : (t : Bool) (x y : ℤ) (n : ℕ) → mag x < n → mag y < n → mag (cond t x y) < n

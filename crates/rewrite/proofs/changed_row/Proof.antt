@@ -1,8 +1,8 @@
--- `edit::changed_row` meets its contract. Assumes nothing.
+-- `rewrite::changed_row` meets its contract. Assumes nothing.
 use borrow.Author.Needs.{needs}
 use borrow.Author.Tests.{lt-ltb, le-ltb}
-use Rattle.edit.proofs.changed_row.Statement.{statement}
-use Rattle.edit.proofs.changed_row.Tie as tie
+use Rattle.rewrite.proofs.changed_row.Statement.{statement}
+use Rattle.rewrite.proofs.changed_row.Tie as tie
 
 some : tie.Need-returns
 some c = rw (lt-ltb (c .before .args .a) (c .before .args .m) (c .if1 .taken))

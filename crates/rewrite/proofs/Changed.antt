@@ -27,7 +27,7 @@ use Rattle.rows.proofs.Reached.{rows-stand}
 use Rattle.rows.proofs.Totals.{total-split}
 use Rattle.checks.specs.Site.{Rows}
 use Rattle.alter.specs.Altering.{firstChanged, outflowsFrom, storagesFrom}
-use Rattle.edit.specs.Needs.{SmallOk}
+use Rattle.rewrite.specs.Needs.{SmallOk}
 
 -- rows whose lists are the same are
 pub rows-equal : {a b : Rows} → a .inflow ≡ b .inflow → a .outflow ≡ b .outflow → a .storage ≡ b .storage → a ≡ b

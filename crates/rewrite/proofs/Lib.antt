@@ -1,0 +1,4 @@
+pub mod Signs
+pub mod Changed
+pub mod Swaps
+pub mod Answers
