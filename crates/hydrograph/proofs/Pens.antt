@@ -5,10 +5,10 @@ use native.Mathlib.Nat.{mul-sub, mul-le-mul, mul-le-mul-left, mod-lt, div-add-mo
 use native.Mathlib.Omega.{arith}
 use Rattle.laws.specs.Limits.{mostStep}
 use Rattle.hydrograph.specs.InflowRows.{time, ratio, lineAt, top, onLine, weightOn, weight}
-use Rattle.hydrograph.specs.Needs.{LineOk, TimingOk, PaceOk, PenOk, lengthOn, valueOn}
+use Rattle.hydrograph.specs.Needs.{LineOk, TimingOk, PaceOk, PenOk, PenReady, lengthOn, valueOn}
 use Rattle.hydrograph.specs.declared.Pace.{Pace}
 use Rattle.hydrograph.specs.declared.Pen.{Pen}
-use Rattle.hydrograph.proofs.Lines.{OnLine, on-line, on-line-most, line-ok, line-stays}
+use Rattle.hydrograph.proofs.Lines.{OnLine, on-line, on-line-most, line-ok, line-rises, line-stays}
 use Rattle.hydrograph.proofs.Weights.{peak-some, peak-most}
 
 -- a step of s along a line takes s times the ratio at one end away, and gives s times that at the other
@@ -82,7 +82,15 @@ pen-starts Tp D t i a b y0 y1 pace early on apart ea eb e0 e1 ok =
       pace-ok = rw (e0, e1) at ok;
     }
 
+-- a pen that is not set down yet: its line has ended, and is at or before the one that its next step leads to
+pub above-ready : (Tp D : ℕ) (pen : Pen) → 0 < D → pen .end ≡ 0 → pen .line ≤ lineAt Tp (pen .time + 10 * D) → PenReady Tp D pen
+above-ready Tp D pen some ended l = record { on = λ h. absurd (omega arith); past = l }
+
 module _ (Tp D : ℕ) (pen : Pen) (ok : PenOk Tp D pen) where
+  -- one that is set down can go on
+  pub pen-ready : PenReady Tp D pen
+  pen-ready = record { on = λ h. ok; past = omega (arith, ok .at-line, line-rises Tp (pen .time) (pen .time + 10 * D) (omega arith)) }
+
   -- the pen's time lies on its line
   pub pen-on : OnLine Tp (pen .time) (pen .line)
   pen-on = rw (ok .at-line) (on-line Tp (pen .time) (ok .early))

@@ -80,3 +80,8 @@ pub record PenOk (Tp D : ℕ) (pen : Pen) : Type 0 where
   pub value : pen .weight * pen .length + pen .rest ≡ valueOn Tp (pen .time) (pen .line)
   pub less : pen .rest < pen .length
   pub pace-ok : PaceOk (pen .end - pen .time) (pen .length) D (ratio (pen .line)) (ratio (pen .line + 1)) (pen .pace)
+
+-- a pen whose next step can be taken: where that step stays on its line it is a pen as above, and else its line is at or before the one that the step leads to
+pub record PenReady (Tp D : ℕ) (pen : Pen) : Type 0 where
+  pub on : pen .time + 10 * D ≤ pen .end → PenOk Tp D pen
+  pub past : pen .line ≤ lineAt Tp (pen .time + 10 * D)

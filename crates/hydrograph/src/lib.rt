@@ -3,13 +3,13 @@
 // depths in millionths of an inch, volumes in thousandths of a cubic foot.
 use laws::limits;
 ghost use mathlib.Core.Path.{_≡_};
-ghost use Prim.Native.Nat.{_+_, _*_, _≤_, _<_, min};
-ghost use lib.ListN.{length};
+ghost use Prim.Native.Nat.{ℕ, _+_, _*_, _≤_, _<_, min};
+ghost use lib.ListN.{length, getD};
 ghost use Rattle.laws.specs.Sum.{sumTo};
 ghost use Rattle.laws.specs.Listed.{rowsFrom};
 ghost use Rattle.travel.specs.Needs.{TimeOk};
 ghost use Rattle.hydrograph.specs.InflowRows.{time, ratio, lineAt, onLine, weight, weights, totalWeight, volumeOf, concentrationGood, peakGood, weightsGood};
-ghost use Rattle.hydrograph.specs.Needs.{hand, weighed, product, LineOk, TimingOk, PaceOk, PenOk, Below, mostDepth};
+ghost use Rattle.hydrograph.specs.Needs.{hand, weighed, product, LineOk, TimingOk, PaceOk, PenOk, PenReady, Below, mostDepth};
 ghost use Rattle.laws.specs.Limits.{mostRows, mostStep, mostArea, mostWeights};
 
 // The weights that are worked out and laid at once.
@@ -17,43 +17,6 @@ pub const HAND: usize = 8;
 
 // A depth for each row, and the one before the first.
 pub const ENTRIES: usize = limits::MOST_ROWS + 1;
-
-// The shape's ratios, in thousandths of the peak; narrow, since the table is laid on the stack where it is read.
-const RATIOS: [u16; 33] = [
-    0,
-    30,
-    100,
-    190,
-    310,
-    470,
-    660,
-    820,
-    930,
-    990,
-    1000,
-    990,
-    930,
-    860,
-    780,
-    680,
-    560,
-    460,
-    390,
-    330,
-    280,
-    207,
-    147,
-    107,
-    77,
-    55,
-    40,
-    29,
-    21,
-    15,
-    11,
-    5,
-    0,
-];
 
 // The shape's times, in tenths of the time to peak: knots stand 1 apart to 20, 2 apart to 40, then 5. Worked out, since a
 // table that is read for each knot of each weight would be laid on the stack as often.
@@ -71,17 +34,46 @@ fn time_at(i: usize) -> u64
     5 * k - 110
 }
 
-fn wider(x: u16) -> u64
-    ensures { λ r. ⌜ r ≡ x ⌝ }
-{
-    x as u64
-}
-
+// The shape's ratios, in thousandths of the peak: 0 at its first knot and at its last. Told by a match, since a table would be
+// laid on the stack wherever it is read.
 fn ratio_at(i: usize) -> u64
     requires { ⌜ i < 33 ⌝ }
     ensures { λ r. ⌜ r ≡ ratio i ⌝ }
 {
-    wider(RATIOS[i])
+    match i {
+        1 => 30,
+        2 => 100,
+        3 => 190,
+        4 => 310,
+        5 => 470,
+        6 => 660,
+        7 => 820,
+        8 => 930,
+        9 => 990,
+        10 => 1000,
+        11 => 990,
+        12 => 930,
+        13 => 860,
+        14 => 780,
+        15 => 680,
+        16 => 560,
+        17 => 460,
+        18 => 390,
+        19 => 330,
+        20 => 280,
+        21 => 207,
+        22 => 147,
+        23 => 107,
+        24 => 77,
+        25 => 55,
+        26 => 40,
+        27 => 29,
+        28 => 21,
+        29 => 15,
+        30 => 11,
+        31 => 5,
+        _ => 0,
+    }
 }
 
 // The line between knots on which a time, in tenths of a second, lies.
@@ -215,7 +207,7 @@ fn pen_at(peak: u64, step: u64, t: u64, from: usize) -> Pen
 
 // The pen a step on: on its line by addition alone, with the carry; else on a line that follows.
 fn pen_next(pen: Pen, peak: u64, step: u64) -> Pen
-    requires { ⌜ TimingOk step peak × (PenOk peak step pen × (pen .time + 10 * step ≤ 50 * peak)) ⌝ }
+    requires { ⌜ TimingOk step peak × (PenReady peak step pen × (pen .time + 10 * step ≤ 50 * peak)) ⌝ }
     ensures { λ r. ⌜ (r .time ≡ pen .time + 10 * step) × PenOk peak step r ⌝ }
 {
     let t = pen.time + 10 * step;
@@ -240,6 +232,27 @@ fn pen_next(pen: Pen, peak: u64, step: u64) -> Pen
     }
 }
 
+// A pen above the shape, a step before the weight after the first `done`: its line has ended, so that its next step sets it
+// down on the line of that weight, looked for from `line` on.
+fn pen_above(step: u64, done: usize, line: usize) -> Pen
+    requires { ⌜ (step ≤ mostStep) × (done < mostWeights) ⌝ }
+    ensures { λ r. ⌜ (r .time ≡ 10 * (done * step)) × ((r .end ≡ 0) × (r .line ≡ line)) ⌝ }
+{
+    Pen {
+        time: 10 * (done as u64 * step),
+        end: 0,
+        line,
+        weight: 0,
+        rest: 0,
+        length: 1,
+        pace: Pace {
+            up: 0,
+            down: 0,
+            more: 0,
+        },
+    }
+}
+
 // Puts the weights from the one after the first `done` on into a list, as many as it has places for, 0 past the last; looks
 // for their lines from a line at or before the first of them, and gives the last one's.
 pub fn fill_weights(peak: u64, step: u64, done: usize, from: usize, list: &mut [u32; HAND]) -> usize
@@ -247,9 +260,8 @@ pub fn fill_weights(peak: u64, step: u64, done: usize, from: usize, list: &mut [
     ensures { λ r. ⌜ (r ≡ lineAt peak (10 * (min (done + hand) (weights peak step) * step))) × (now (list .exit) ≡ rowsFrom (weighed peak step) done hand) ⌝ }
 {
     let count = (5 * peak / step) as usize;
-    let mut pen = pen_at(peak, step, 10 * ((done as u64 + 1) * step), from);
-    list[0] = pen.weight as u32;
-    let mut i = 1;
+    let mut pen = pen_above(step, done, from);
+    let mut i = 0;
     while i < HAND {
         let mut next = 0;
         if done + i < count {
@@ -262,19 +274,34 @@ pub fn fill_weights(peak: u64, step: u64, done: usize, from: usize, list: &mut [
     pen.line
 }
 
+// The sum of a hand of weights.
+fn sum_of_hand(list: &[u32; HAND]) -> u64
+    requires { ⌜ Below (now list) hand 1000000 ⌝ }
+    ensures { λ r. ⌜ r ≡ sumTo (λ (i : ℕ). getD (now (list .entry)) i 0) hand ⌝ }
+{
+    let mut sum = 0;
+    let mut i = 0;
+    while i < HAND {
+        sum += wide(list[i]);
+        i += 1;
+    }
+    sum
+}
+
 // The sum of all weights.
 pub fn total_weight(peak: u64, step: u64) -> u64
     requires { ⌜ TimingOk step peak ⌝ }
     ensures { λ r. ⌜ r ≡ totalWeight peak step ⌝ }
 {
-    let count = 5 * peak / step;
-    let mut pen = pen_at(peak, step, 10 * step, 0);
-    let mut total = pen.weight;
-    let mut j = 1;
-    while j < count {
-        pen = pen_next(pen, peak, step);
-        total += pen.weight;
-        j += 1;
+    let count = (5 * peak / step) as usize;
+    let mut list = [0u32; HAND];
+    let mut line = 0;
+    let mut total = 0;
+    let mut done = 0;
+    while done < count {
+        line = fill_weights(peak, step, done, line, &mut list);
+        total += sum_of_hand(&list);
+        done += HAND;
     }
     total
 }

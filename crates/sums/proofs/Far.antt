@@ -13,7 +13,7 @@ use Rattle.hydrograph.specs.Needs.{hand, weighed, mostDepth, TimingOk, Below}
 use Rattle.hydrograph.proofs.Lines.{line-next}
 use Rattle.sums.specs.Needs.{handful, sumIn, NumbersOk}
 use Rattle.sums.specs.declared.Numbers.{Numbers}
-use Rattle.sums.proofs.Hands.{hands-more, whole-past, weighed-most, sum-fits}
+use Rattle.sums.proofs.Hands.{hands-more, whole-past, sum-fits}
 
 -- The invariant, before the hand of weights after the first `done`: n sums have those weights, and the next weight's line is not passed
 pub record Summing (D : ℕ) (own : Numbers) (q : List ℕ) (lead n : ℕ) (sums w : List ℕ) (line done : ℕ) : Type 0 where

@@ -4,28 +4,16 @@ use mathlib.Core.List.{List}
 use Prim.Native.Nat.{ℕ, _+_, _-_, _*_, _≤_, _<_}
 use native.Mathlib.Nat.{mul-le-mul-left}
 use native.Mathlib.Omega.{arith}
-use borrow.Author.Tests.{ltb-true, lt-ltb, le-ltb}
 use lib.ListN.{length, getD}
-use lib.Dec.{ltb}
 use Rattle.laws.specs.Sum.{sumTo}
 use Rattle.laws.specs.Listed.{rowsFrom, plus}
-use Rattle.laws.proofs.Tests.{by-test}
 use Rattle.laws.proofs.Sums.{sum-le, sum-same, sum-times, sum-zeros, sum-upto, sum-split}
 use Rattle.laws.proofs.Listed.{rows-length, rows-at, rows-are, plus-length, plus-at}
 use Rattle.hydrograph.specs.InflowRows.{weightAt, weights, totalWeight}
-use Rattle.hydrograph.specs.Needs.{hand, weighed, product, mostDepth, TimingOk, Below}
-use Rattle.hydrograph.proofs.Weights.{weights-most, in-time, weight-most, total-to}
+use Rattle.hydrograph.specs.Needs.{hand, weighed, product, mostDepth, TimingOk}
+use Rattle.hydrograph.proofs.Weights.{weights-most, total-to}
+use Rattle.hydrograph.proofs.Hands.{weighed-past, weighed-own}
 use Rattle.sums.specs.Needs.{handful}
-
--- past the last weight there is none
-pub weighed-past : (Tp D g : ℕ) → weights Tp D ≤ g → weighed Tp D g ≡ 0
-unfolding weighed
-weighed-past Tp D g l = rw (le-ltb g (weights Tp D) l)
-
--- any other is the shape's own
-pub weighed-own : (Tp D g : ℕ) → g < weights Tp D → weighed Tp D g ≡ weightAt Tp D g
-unfolding weighed
-weighed-own Tp D g l = rw (lt-ltb g (weights Tp D) l)
 
 -- the first n weights, each times what it is laid over
 abbrev pub laidOver : ℕ → ℕ → (ℕ → ℕ) → ℕ → ℕ
@@ -67,39 +55,27 @@ hands-more Tp D done Q w q from n e over =
 pub whole-past : (Tp D : ℕ) (Q : ℕ → ℕ) (n : ℕ) → weights Tp D ≤ n → laidOver Tp D Q n ≡ laidOver Tp D Q (weights Tp D)
 whole-past Tp D Q n l = sum-zeros (λ g. weighed Tp D g * Q g) (weights Tp D) n l (λ g a b. rw (weighed-past Tp D g a) (omega arith))
 
-module _ (D Tp : ℕ) (timing : TimingOk D Tp) where
-  -- no weight is above 1,000,000
-  pub weighed-most : (g : ℕ) → weighed Tp D g ≤ 1000000
-  unfolding weighed
-  weighed-most g =
-      by-test (λ (r : ℕ). r ≤ 1000000) (ltb g (weights Tp D)) (weightAt Tp D g) 0
-      (λ t. weight-most D Tp timing (g + 1) (in-time D Tp timing (g + 1) (omega (arith, ltb-true g (weights Tp D) t)))) (λ t. omega arith)
+module _ (D Tp : ℕ) (timing : TimingOk D Tp) (Q : ℕ → ℕ) (small : (g : ℕ) → Q g ≤ mostDepth) where
+  -- a sum is at most 30,000,000 times all weights
+  pub sum-deep : (n : ℕ) → laidOver Tp D Q n ≤ mostDepth * totalWeight Tp D
+  unfolding totalWeight
+  sum-deep n =
+      omega (
+        arith,
+        sum-upto (λ g. weighed Tp D g * Q g) n (n + weights Tp D) (omega arith),
+        whole-past Tp D Q (n + weights Tp D) (omega arith),
+        sum-times mostDepth (weightAt Tp D) (weights Tp D),
+        sum-le (λ g. weighed Tp D g * Q g) (λ g. mostDepth * weightAt Tp D g) (weights Tp D) each,
+      )
+    where
+      each : (g : ℕ) → g < weights Tp D → weighed Tp D g * Q g ≤ mostDepth * weightAt Tp D g
+      each g l = rw (weighed-own Tp D g l) (omega (arith, mul-le-mul-left (weightAt Tp D g) (small g)))
 
-  module _ (Q : ℕ → ℕ) (small : (g : ℕ) → Q g ≤ mostDepth) where
-    -- a sum is at most 30,000,000 times all weights
-    pub sum-deep : (n : ℕ) → laidOver Tp D Q n ≤ mostDepth * totalWeight Tp D
-    unfolding totalWeight
-    sum-deep n =
-        omega (
-          arith,
-          sum-upto (λ g. weighed Tp D g * Q g) n (n + weights Tp D) (omega arith),
-          whole-past Tp D Q (n + weights Tp D) (omega arith),
-          sum-times mostDepth (weightAt Tp D) (weights Tp D),
-          sum-le (λ g. weighed Tp D g * Q g) (λ g. mostDepth * weightAt Tp D g) (weights Tp D) each,
-        )
-      where
-        each : (g : ℕ) → g < weights Tp D → weighed Tp D g * Q g ≤ mostDepth * weightAt Tp D g
-        each g l = rw (weighed-own Tp D g l) (omega (arith, mul-le-mul-left (weightAt Tp D g) (small g)))
-
-    -- so it fits
-    pub sum-fits : (n : ℕ) → laidOver Tp D Q n ≤ 16000000000000000
-    unfolding totalWeight
-    sum-fits n = omega (arith, sum-deep n, total-to D Tp timing (weights Tp D) (omega arith), weights-most D Tp timing)
+  -- so it fits
+  pub sum-fits : (n : ℕ) → laidOver Tp D Q n ≤ 16000000000000000
+  unfolding totalWeight
+  sum-fits n = omega (arith, sum-deep n, total-to D Tp timing (weights Tp D) (omega arith), weights-most D Tp timing)
 
 -- where the depths are 0 from a hand on, its sum is whole
 pub whole-early : (Tp D : ℕ) (Q : ℕ → ℕ) (done : ℕ) → done ≤ weights Tp D → ((g : ℕ) → done ≤ g → Q g ≡ 0) → laidOver Tp D Q done ≡ laidOver Tp D Q (weights Tp D)
 whole-early Tp D Q done l none = sym (sum-zeros (λ g. weighed Tp D g * Q g) done (weights Tp D) l (λ g a b. rw (none g a) (omega arith)))
-
--- no weight of a hand is above 1,000,000
-pub hand-below : (D Tp : ℕ) → TimingOk D Tp → (done : ℕ) (w : List ℕ) → w ≡ rowsFrom (weighed Tp D) done hand → Below w hand 1000000
-hand-below D Tp ok done w e = record { each = λ i l. rw (e, rows-at (weighed Tp D) done hand i l) (weighed-most D Tp ok (done + i)) }

@@ -15,7 +15,7 @@ use Rattle.hydrograph.specs.Needs.{hand, weighed, mostDepth, TimingOk, RainOk, 
 use Rattle.hydrograph.proofs.Released.{runoff-most}
 use Rattle.sums.specs.declared.Numbers.{Numbers}
 use Rattle.sums.specs.Needs.{blockRows, handful, sumOf, WindowOk, Slid}
-use Rattle.sums.proofs.Hands.{weighed-most, hands-more, sum-fits}
+use Rattle.sums.proofs.Hands.{hands-more, sum-fits}
 
 -- the depths that go in front: as many as a hand, and a hand of weights back
 abbrev handBack : ℕ → List ℕ → ℕ → ℕ → List ℕ → List ℕ

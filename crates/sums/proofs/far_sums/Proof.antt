@@ -11,7 +11,7 @@ use Rattle.laws.proofs.Listed.{rows-length}
 use Rattle.hydrograph.specs.InflowRows.{weights}
 use Rattle.hydrograph.proofs.Weights.{peak-most}
 use Rattle.sums.specs.Needs.{handful, sumIn, NumbersOk}
-use Rattle.sums.proofs.Hands.{hand-below}
+use Rattle.hydrograph.proofs.Hands.{hand-below}
 use Rattle.sums.proofs.Far.{Summing, summing-start, summing-length, part-length, part-below, summing-room, summing-turn, summing-end}
 use Rattle.sums.proofs.far_sums.Statement.{statement}
 use Rattle.sums.proofs.far_sums.Tie as tie

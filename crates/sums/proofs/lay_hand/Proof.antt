@@ -11,7 +11,7 @@ use Rattle.hydrograph.specs.Needs.{hand}
 use Rattle.hydrograph.proofs.Weights.{weights-most}
 use Rattle.hydrograph.proofs.Lines.{line-next}
 use Rattle.sums.proofs.Window.{window-full, full-long, full-below, window-moved, laid-more, sums-below}
-use Rattle.sums.proofs.Hands.{hand-below}
+use Rattle.hydrograph.proofs.Hands.{hand-below}
 use Rattle.sums.proofs.lay_hand.Statement.{statement}
 use Rattle.sums.proofs.lay_hand.Tie as tie
 
