@@ -180,7 +180,8 @@ pub fn far_sums(own: Numbers, step: u64, q: &[u64], lead: usize, sums: &mut [u64
     let mut done = 0;
     while done < count {
         line = hydrograph::fill_weights(own.peak, step, done, line, &mut w);
-        let a = lead - done - HAND;
+        // Not a plain difference: a start that falls by the same number at each turn keeps the loop inside out of vectors.
+        let a = depths::less(lead, done + HAND);
         lay(sums, &q[a..], &w);
         done += HAND;
     }

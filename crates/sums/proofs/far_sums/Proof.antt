@@ -4,7 +4,7 @@ use mathlib.Core.List.{List}
 use Prim.Native.Nat.{ℕ, _+_, _-_, _≤_, _<_}
 use native.Mathlib.Omega.{arith}
 use borrow.Author.Needs.{needs}
-use lib.ListN.{length}
+use lib.ListN.{length, drop}
 use Rattle.laws.specs.Listed.{rowsFrom, plus}
 use Rattle.laws.proofs.Fill.{tail-part}
 use Rattle.laws.proofs.Listed.{rows-length}
@@ -44,9 +44,13 @@ loop-holds c =
 fill-weights-requires : tie.Need-fill-weights-requires Inv-loop μ-loop
 fill-weights-requires c κs = let a = c .before .before in (numbers a .timed, (omega arith, (a .loop .inv .drawn, a .loop .inv .eight)))
 
+-- where a hand's depths begin
+begins : (c : tie.After-less Inv-loop μ-loop) → c .less .result ≡ start (c .before .before .before .before) .args .lead - c .before .before .before .before .loop .done - 8
+begins c = omega (arith, c .less .ensures)
+
 lay-requires : tie.Need-lay-requires Inv-loop μ-loop
 lay-requires c κs =
-    let a = c .before .before .before .before .before .before in
+    let a = c .before .before .before .before .before .before .before in
     let s = start a in
     let D = s .args .step in
     let own = s .args .own in
@@ -56,27 +60,27 @@ lay-requires c κs =
     let ahead = s .pre .0 .1 .0 in
     let so = a .loop .inv in
     let more : a .loop .done < weights (own .peak) D = omega arith in
-    rw (tail-part q (lead - a .loop .done - 8)) (
+    rw (begins (c .before .before .before), tail-part q (lead - a .loop .done - 8)) (
       part-length D own q lead n so ahead (fits a) more,
       (
         part-below D own q lead n so ahead (fits a) more (s .pre .1 .0),
-        (hand-below D (own .peak) (numbers a .timed) (a .loop .done) _ (c .before .before .before .fill-weights .ensures .1), summing-room D own q lead n so ahead (fits a) more (s .pre .1 .0) (numbers a)),
+        (hand-below D (own .peak) (numbers a .timed) (a .loop .done) _ (c .before .before .before .before .fill-weights .ensures .1), summing-room D own q lead n so ahead (fits a) more (s .pre .1 .0) (numbers a)),
       ),
     )
 
 again : tie.Need-loop-again Inv-loop μ-loop
 again c =
-    let a = c .before .before .before .before .before .before .before .before .before in
+    let a = c .before .before .before .before .before .before .before .before .before .before in
     let s = start a in
     let D = s .args .step in
     let own = s .args .own in
     let q = s .args .q .now in
     let lead = s .args .lead in
     let n = length (a .before .before .before .before .clear .last .0) in
-    let fill = c .before .before .before .before .before .before .fill-weights in
-    let more : a .loop .done < weights (own .peak) D = omega arith in
+    let fill = c .before .before .before .before .before .before .before .fill-weights in
+    let more : a .loop .done < weights (own .peak) D = omega (arith, c .before .before .before .before .before .before .before .before .before .loop-test .taken) in
     summing-turn D own q lead n (a .loop .inv) (s .pre .0 .1 .0) (fits a) more (fill .ensures .1) (fill .ensures .0)
-    (c .before .before .lay .ensures ∙ ap (λ (z : List ℕ). plus (handful (fill .last .1 .1 .1 .1 .0) z) 1 (a .loop .sums)) (tail-part q (lead - a .loop .done - 8)))
+    (c .before .before .lay .ensures ∙ ap (λ (z : List ℕ). plus (handful (fill .last .1 .1 .1 .1 .0) z) 1 (a .loop .sums)) (tail-part q _ ∙ ap (λ (z : ℕ). drop z q) (begins (c .before .before .before .before .before .before))))
 
 same-length : tie.Need-same-length Inv-loop μ-loop
 same-length c = summing-length _ _ _ _ _ (c .before .loop .inv) ∙ cleared (c .before .before)
@@ -93,7 +97,7 @@ far-sums-spec =
     tie.close
     (tie.spec Inv-loop μ-loop (λ c κs. search needs) (λ c. let s = c .before .before .before .before .before .before .before in omega (arith, peak-most (s .args .step) (s .args .own .peak) (s .pre .0 .0 .timed)))
     (λ c. omega (arith, c .before .before .before .before .before .before .before .pre .0 .0 .timed .step-least)) loop-holds fill-weights-requires
-    (λ c. omega (arith, start (c .before .before .before) .pre .0 .1 .0)) (λ c. omega (arith, start (c .before .before .before) .pre .0 .1 .0))
-    (λ c. omega (arith, start (c .before .before .before .before) .pre .0 .1 .1 .0)) (λ c. omega (arith, start (c .before .before .before .before) .pre .0 .1 .1 .1 .1))
-    (λ c. search needs) (λ c. search needs) lay-requires (λ c. let a = c .before .before .before .before .before .before .before .before .before in omega (arith, start a .pre .0 .1 .0, start a .pre .0 .1 .1 .0))
+    (λ c. omega (arith, start (c .before .before .before) .pre .0 .1 .0, start (c .before .before .before) .pre .0 .1 .1 .0)) (λ c κs. search needs)
+    (λ c. omega (arith, c .before .less .ensures, start (c .before .before .before .before .before) .pre .0 .1 .1 .0)) (λ c. omega (arith, c .before .less .ensures, start (c .before .before .before .before .before) .pre .0 .1 .1 .1 .1))
+    (λ c. search needs) (λ c. search needs) lay-requires (λ c. let a = c .before .before .before .before .before .before .before .before .before .before in omega (arith, start a .pre .0 .1 .0, start a .pre .0 .1 .1 .0))
     (λ c. omega arith) again same-length returns)
