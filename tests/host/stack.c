@@ -21,7 +21,7 @@ enum {
        makes it, where it is given back, and where it is handed on. A compiler may do with fewer. */
     GATHERED = 3 * BT_MOST_SUBAREAS * BT_WIDTH * sizeof(u64),
     HANDED_ON = 129, /* parameters and registers of one call more */
-    FLAT = 2560      /* a study, an edit: blocks of rows, and the calls that they lie under */
+    FLAT = 2047      /* less than 2,048: blocks of rows, and the calls that they lie under */
 };
 
 static const struct {
@@ -32,8 +32,8 @@ static const struct {
     [STUDY_RECORDS] = { "bt_study_records", FLAT + GATHERED + HANDED_ON },
     [EDIT] = { "bt_edit", FLAT },
     [EDIT_RECORDS] = { "bt_edit_records", FLAT + GATHERED + HANDED_ON },
-    [MARK] = { "bt_mark", 2047 },
-    [INFLOW] = { "bt_inflow", 2047 },
+    [MARK] = { "bt_mark", FLAT },
+    [INFLOW] = { "bt_inflow", FLAT },
     [TEXTBOOK] = { "bt_textbook", 33440 }, /* two lists of 2,000 numbers of 64 bits, and its calls */
 };
 
