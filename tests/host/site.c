@@ -2,7 +2,8 @@
 
 #include <string.h>
 
-/* ---- Random numbers */
+/* ---- Random numbers. No two are drawn in one expression whose order is the compiler's, so that a seed has the same cases on
+   every machine. */
 
 u64 any(struct prng *r)
 {
@@ -22,6 +23,12 @@ struct prng prng_of(u64 seed, u64 number)
 u64 below(struct prng *r, u64 n)
 {
     return any(r) % n;
+}
+
+static u64 any_width(struct prng *r)
+{
+    u64 all = any(r);
+    return all >> below(r, 64);
 }
 
 u64 between(struct prng *r, u64 least, u64 most)
@@ -223,7 +230,7 @@ void litter(u64 *record, struct prng *r)
 {
     bool clean = chance(r, 30);
     for (size_t i = 0; i < BT_WIDTH; i++)
-        record[i] = clean ? 0 : chance(r, 30) ? UINT64_MAX : any(r) >> below(r, 64);
+        record[i] = clean ? 0 : chance(r, 30) ? UINT64_MAX : any_width(r);
 }
 
 /* Often of one size, so that means fall on halves. */
@@ -232,8 +239,10 @@ void random_patches(u64 *record, struct prng *r, size_t count, u64 most)
     u64 each = most / count, same = between(r, 1, each);
     bool alike = chance(r, 40);
     record[BT_PATCH_COUNT] = count;
-    for (size_t i = 0; i < count; i++)
-        set_triple(patch_at(record, i), between(r, 1, 22), between(r, 1, 4), alike ? same : between(r, 1, each));
+    for (size_t i = 0; i < count; i++) {
+        u64 cover = between(r, 1, 22), soil = between(r, 1, 4);
+        set_triple(patch_at(record, i), cover, soil, alike ? same : between(r, 1, each));
+    }
 }
 
 /* A sheet segment only where it may stand. */
@@ -433,8 +442,10 @@ void likely_site(struct site *s, struct prng *r)
     s->rule = random_rule(r);
     set_rows(s, n + (chance(r, 80) ? below(r, 60) : 0));
     random_rain(s, r, n, chance(r, 90) ? between(r, 100, 9000) : between(r, 0, 30000));
-    random_subareas(s, r, likely_count(r), chance(r, 70) ? between(r, 2000, 30000) : 200000);
-    random_pond(s, r, chance(r, 80) ? between(r, 2, 12) : between(r, 2, 64), all_water(s) * between(r, 2, 130) / 100);
+    size_t count = likely_count(r);
+    random_subareas(s, r, count, chance(r, 70) ? between(r, 2000, 30000) : 200000);
+    size_t rows = chance(r, 80) ? between(r, 2, 12) : between(r, 2, 64);
+    random_pond(s, r, rows, all_water(s) * between(r, 2, 130) / 100);
 }
 
 void large_site(struct site *s, struct prng *r)
@@ -443,7 +454,8 @@ void large_site(struct site *s, struct prng *r)
     s->first = below(r, 1000000);
     s->rule = random_rule(r);
     set_rows(s, BT_MOST_ROWS);
-    random_rain(s, r, chance(r, 50) ? BT_MOST_ROWS : between(r, 200, BT_MOST_ROWS), between(r, 2000, 30000));
+    size_t steps = chance(r, 50) ? BT_MOST_ROWS : between(r, 200, BT_MOST_ROWS);
+    random_rain(s, r, steps, between(r, 2000, 30000));
     random_subareas(s, r, BT_MOST_SUBAREAS, 200000);
     for (size_t i = 0; i < BT_MOST_SUBAREAS; i++)
         random_path_of(s->rule, record_at(s, i), r, between(r, 10190, 10191)); /* Tp 6,144 */
@@ -459,12 +471,13 @@ u64 nasty(struct prng *r, u64 was)
         200000, 1000000, 10000000, 4294967296, 217800000000, 1000000000000, 9007199254740991, 9223372036854775807,
         UINT64_MAX,
     };
+    u64 edge = edges[below(r, sizeof edges / sizeof *edges)];
     switch (below(r, 6)) {
     case 0: return was + 1;
     case 1: return was - 1;
-    case 2: return any(r) >> below(r, 64);
+    case 2: return any_width(r);
     case 3: return was + (between(r, 1, 3) << 32);
-    default: return edges[below(r, sizeof edges / sizeof *edges)] + below(r, 3) - 1;
+    default: return edge + below(r, 3) - 1;
     }
 }
 
@@ -564,7 +577,8 @@ void spoil_time(const struct site *s, u64 *record, struct prng *r)
 {
     const u64 near[] = { 36000, concentration_of(s->step, s->step) % 36000,
                          concentration_of(s->step, 512 * s->step / 5) % 36000, below(r, 36000) };
-    set_concentration(record, near[below(r, 4)] + below(r, 4));
+    u64 seconds = near[below(r, 4)];
+    set_concentration(record, seconds + below(r, 4));
 }
 
 /* Nothing out of its own limits, but perhaps out of the study's. */
