@@ -23,7 +23,7 @@ use Rattle.hydrograph.proofs.weights_good.Reads as weights-good-reads
 pub weight-one : OneAnswer weight-kinds.ps weight-kinds.r weight-reads.Post
 weight-one κs a x y s t p q = same p q
 
-pub fill-weights-one : OneAnswerAnd fill-weights-kinds.ps fill-weights-kinds.r {L = List ℕ} (λ κs s. now (s .1 .1 .1 .1 .0)) fill-weights-reads.Post
+pub fill-weights-one : OneAnswerAnd fill-weights-kinds.ps fill-weights-kinds.r {L = List ℕ} (λ κs s. now (s .1 .1 .1 .1 .1 .0)) fill-weights-reads.Post
 fill-weights-one κs a x y s t p q = (same (p .0) (q .0), same (p .1) (q .1))
 
 pub total-weight-one : OneAnswer total-weight-kinds.ps total-weight-kinds.r total-weight-reads.Post

@@ -253,13 +253,20 @@ fn pen_above(step: u64, done: usize, line: usize) -> Pen
     }
 }
 
-// Puts the weights from the one after the first `done` on into a list, as many as it has places for, 0 past the last; looks
-// for their lines from a line at or before the first of them, and gives the last one's.
-pub fn fill_weights(peak: u64, step: u64, done: usize, from: usize, list: &mut [u32; HAND]) -> usize
-    requires { ⌜ TimingOk step peak × ((done < weights peak step) × ((from ≤ lineAt peak (10 * ((done + 1) * step))) × (length (now list) ≡ hand))) ⌝ }
+// Puts the weights from the one after the first `done` on into a list, as many as it has places for, 0 past the last of `count`;
+// looks for their lines from a line at or before the first of them, and gives the last one's.
+pub fn fill_weights(
+    peak: u64,
+    step: u64,
+    count: usize,
+    done: usize,
+    from: usize,
+    list: &mut [u32; HAND],
+) -> usize
+    requires { ⌜ TimingOk step peak × ((count ≡ weights peak step) × (done < count)) ⌝ }
+    requires { ⌜ (from ≤ lineAt peak (10 * ((done + 1) * step))) × (length (now list) ≡ hand) ⌝ }
     ensures { λ r. ⌜ (r ≡ lineAt peak (10 * (min (done + hand) (weights peak step) * step))) × (now (list .exit) ≡ rowsFrom (weighed peak step) done hand) ⌝ }
 {
-    let count = (5 * peak / step) as usize;
     let mut pen = pen_above(step, done, from);
     let mut i = 0;
     while i < HAND {
@@ -299,7 +306,7 @@ pub fn total_weight(peak: u64, step: u64) -> u64
     let mut total = 0;
     let mut done = 0;
     while done < count {
-        line = fill_weights(peak, step, done, line, &mut list);
+        line = fill_weights(peak, step, count, done, line, &mut list);
         total += sum_of_hand(&list);
         done += HAND;
     }

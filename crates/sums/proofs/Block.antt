@@ -26,6 +26,10 @@ blank = replicate (blockRows + hand) 0
 pub blank-few : (k : ℕ) → length (take k (drop hand blank)) ≤ mostRows
 blank-few k = omega (arith, length-take k (drop hand blank))
 
+-- and one of a row or more has a depth
+pub blank-some : (k : ℕ) → 1 ≤ k → 1 ≤ length (take k (drop hand blank))
+blank-some k l = omega (arith, length-take k (drop hand blank))
+
 -- before the hand after the first `done`: the m sums are of the weights laid so far, and the window and the line are ready
 pub record Summing (D : ℕ) (rain : List ℕ) (own : Numbers) (from m : ℕ) (sums q : List ℕ) (line done : ℕ) : Type 0 where
   pub summed : sums ≡ rowsFrom (sumOf D rain own done) from m

@@ -18,11 +18,17 @@ pub record Deepening (c : ℕ) (rain : List ℕ) (first back m : ℕ) (list : Li
   pub filled : Filled (λ j. runoffAt c rain (first + j - back)) i list
 
 module _ (c : ℕ) (rain : List ℕ) (first back : ℕ) where
-  -- where the loop begins
-  pub deepening-start : (list : List ℕ) (last : ℕ) → last ≡ runoffAt c rain (first - (back + 1)) → Deepening c rain first back (length list) list last 0
-  deepening-start list last e =
-      let k : first - (back + 1) ≡ first + 0 - (back + 1) = omega arith in
-      record { at = omega arith; long = refl; before = e ∙ ap (runoffAt c rain) k; filled = filled-none _ list }
+  -- where the loop begins: the first depth stands
+  pub deepening-start : (list : List ℕ) (last : ℕ) → 0 < length list → last ≡ runoffAt c rain (first - back) → Deepening c rain first back (length (set list 0 last)) (set list 0 last) last 1
+  deepening-start list last some e =
+      let k : first - back ≡ first + 1 - (back + 1) = omega arith in
+      let j : first - back ≡ first + 0 - back = omega arith in
+      record {
+        at = rw (length-set list 0 last) some;
+        long = refl;
+        before = e ∙ ap (runoffAt c rain) k;
+        filled = filled-more (λ j. runoffAt c rain (first + j - back)) 0 list last some (filled-none _ list) (e ∙ ap (runoffAt c rain) j);
+      }
 
   module _ {m : ℕ} {list : List ℕ} {last i : ℕ} (so : Deepening c rain first back m list last i) where
     -- the depth due is the last one again while `back` is no less than its place

@@ -44,11 +44,12 @@ fn depth_after(tenths: u64, rain: &[u64], t: usize, last: u64) -> u64
 
 // Fills a list with Q at `first` - `back`, at the next, and so on; Q at 0 while `back` is more.
 pub fn fill_depths(tenths: u64, rain: &[u64], first: usize, back: usize, list: &mut [u64])
-    requires { ⌜ CurveOk tenths × (RainOk (now rain) × ((1 ≤ first) × ((first ≤ 10000) × ((back ≤ 10000) × (length (now list) ≤ mostRows))))) ⌝ }
+    requires { ⌜ CurveOk tenths × (RainOk (now rain) × ((1 ≤ first) × ((first ≤ 10000) × ((back ≤ 10000) × ((1 ≤ length (now list)) × (length (now list) ≤ mostRows)))))) ⌝ }
     ensures { λ _. ⌜ now (list .exit) ≡ rowsFrom (λ (k : ℕ). runoffAt tenths (now (rain .entry)) (k - back)) first (length (now (list .entry))) ⌝ }
 {
-    let mut last = depth_at(tenths, rain, less(first, back + 1));
-    let mut i = 0;
+    let mut last = depth_at(tenths, rain, less(first, back));
+    list[0] = last;
+    let mut i = 1;
     while i < list.len() {
         let k = first + i;
         if back < k {

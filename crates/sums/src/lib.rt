@@ -116,20 +116,21 @@ fn slide(q: &mut [u64], n: usize)
     }
 }
 
-// Lays the hand of weights after the first `done` over the sums of rows from row `from` on, and readies the window for the
+// Lays the hand of weights after the first `done` of `count` over the sums of rows from row `from` on, and readies the window for the
 // next one. Gives the line of the hand's last weight.
 fn lay_hand(
     own: Numbers,
     step: u64,
     rain: &[u64],
     from: usize,
+    count: usize,
     done: usize,
     line: usize,
     sums: &mut [u64],
     q: &mut [u64],
 ) -> usize
     requires { ⌜ NumbersOk step own × (RainOk (now rain) × ((2 ≤ length (now sums)) × ((length (now sums) ≤ blockRows + 1) × (from + length (now sums) ≤ mostRows + 1)))) ⌝ }
-    requires { ⌜ (done < weights (own .peak) step) × (line ≤ lineAt (own .peak) (10 * ((done + 1) * step))) ⌝ }
+    requires { ⌜ (count ≡ weights (own .peak) step) × ((done < count) × (line ≤ lineAt (own .peak) (10 * ((done + 1) * step)))) ⌝ }
     requires { ⌜ WindowOk (own .tenths) (now rain) from done (length (now sums) - 1) (now q) × (now sums ≡ rowsFrom (sumOf step (now rain) own done) from (length (now sums))) ⌝ }
     ensures { λ _. ⌜ now (sums .exit) ≡ rowsFrom (sumOf step (now (rain .entry)) own (done + hand)) from (length (now (sums .entry))) ⌝ }
     ensures { λ _. ⌜ WindowOk (own .tenths) (now (rain .entry)) from (done + hand) (length (now (sums .entry)) - 1) (now (q .exit)) ⌝ }
@@ -138,7 +139,7 @@ fn lay_hand(
     let mut w = [0u32; HAND];
     let n = sums.len() - 1;
     depths::fill_depths(own.tenths, rain, from + 1, done + HAND, &mut q[..HAND]);
-    let last = hydrograph::fill_weights(own.peak, step, done, line, &mut w);
+    let last = hydrograph::fill_weights(own.peak, step, count, done, line, &mut w);
     lay(sums, q, &w);
     slide(q, n);
     last
@@ -162,7 +163,7 @@ pub fn block_sums(own: Numbers, step: u64, rain: &[u64], from: usize, sums: &mut
         if q[e - 1] == 0 {
             return;
         }
-        line = lay_hand(own, step, rain, from, done, line, sums, &mut q[..]);
+        line = lay_hand(own, step, rain, from, count, done, line, sums, &mut q[..]);
         done += HAND;
     }
 }
@@ -179,7 +180,7 @@ pub fn far_sums(own: Numbers, step: u64, q: &[u64], lead: usize, sums: &mut [u64
     let mut line = 0;
     let mut done = 0;
     while done < count {
-        line = hydrograph::fill_weights(own.peak, step, done, line, &mut w);
+        line = hydrograph::fill_weights(own.peak, step, count, done, line, &mut w);
         // Not a plain difference: a start that falls by the same number at each turn keeps the loop inside out of vectors.
         let a = depths::less(lead, done + HAND);
         lay(sums, &q[a..], &w);

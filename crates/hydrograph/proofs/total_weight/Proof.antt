@@ -22,7 +22,7 @@ start c = totalling-start (c .args .peak) (c .args .step) (c .pre) _ refl
 fill-weights-requires : tie.Need-fill-weights-requires Inv-loop μ-loop
 fill-weights-requires c κs =
     let a = c .before .before in
-    (a .before .pre, (c .before .loop-test .taken, (a .loop .inv .next, a .loop .inv .long)))
+    ((a .before .pre, (refl, c .before .loop-test .taken)), (a .loop .inv .next, a .loop .inv .long))
 
 sum-of-hand-requires : tie.Need-sum-of-hand-requires Inv-loop μ-loop
 sum-of-hand-requires c κs =

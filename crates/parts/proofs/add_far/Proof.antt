@@ -48,7 +48,8 @@ due-long s = rows-length (sumAt (s .args .step) (s .args .rain .now) (s .args .o
 fill-depths-requires : tie.Need-fill-depths-requires
 fill-depths-requires c κs =
     let s = c .before .before .before .before .before in
-    (s .pre .0 .0 .curved, (s .pre .0 .1 .0, (omega arith, (omega (arith, s .pre .0 .1 .1 .1), (omega arith, front-long (λ (z : ℕ). z ≤ mostRows) (end s) (s .args .q .now) (s .pre .1 .1 .0) (omega (arith, s .pre .0 .1 .1 .1)))))))
+    let depths-fit = front-long (λ (z : ℕ). (1 ≤ z) × (z ≤ mostRows)) (end s) (s .args .q .now) (s .pre .1 .1 .0) (omega (arith, s .pre .1 .0), omega (arith, s .pre .0 .1 .1 .1)) in
+    (s .pre .0 .0 .curved, (s .pre .0 .1 .0, (omega arith, (omega (arith, s .pre .0 .1 .1 .1), (omega arith, depths-fit)))))
 
 -- the depths stand in the front of the first list
 filled : (c : tie.After-fill-depths) → c .fill-depths .last .1 .1 .1 .1 .0 ≡ asked (before-depths c)

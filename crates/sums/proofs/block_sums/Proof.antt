@@ -1,5 +1,5 @@
 -- `sums::block_sums` meets its contract. Assumes nothing.
-use mathlib.Core.Path.{_≡_, sym, ap, _∙_}
+use mathlib.Core.Path.{_≡_, refl, sym, ap, _∙_}
 use Prim.Native.Nat.{ℕ, _+_, _-_}
 use native.Mathlib.Omega.{arith}
 use borrow.Author.Needs.{needs}
@@ -10,7 +10,7 @@ use Rattle.hydrograph.specs.InflowRows.{weights}
 use Rattle.hydrograph.specs.Needs.{hand}
 use Rattle.hydrograph.proofs.Weights.{peak-most, weights-most}
 use Rattle.sums.specs.Needs.{sumOf}
-use Rattle.sums.proofs.Block.{Summing, blank-few, window-start, summing-start, summing-long, summing-sums, summing-window, summing-turn, summing-stop, summing-end}
+use Rattle.sums.proofs.Block.{Summing, blank-few, blank-some, window-start, summing-start, summing-long, summing-sums, summing-window, summing-turn, summing-stop, summing-end}
 use Rattle.sums.proofs.block_sums.Statement.{statement}
 use Rattle.sums.proofs.block_sums.Tie as tie
 
@@ -55,7 +55,7 @@ part-q-end c = omega (arith, clear-long (c .before .before .before), c .before .
 fill-depths-requires : tie.Need-fill-depths-requires Inv-loop μ-loop
 fill-depths-requires c κs =
     let s = c .before .before .before .before .before .before .before .before in
-    (s .pre .0 .curved, (s .pre .1 .0, (omega arith, (omega (arith, s .pre .1 .1), (omega arith, blank-few (length (c .before .before .before .before .clear .last .0) - 1 + hand - hand))))))
+    (s .pre .0 .curved, (s .pre .1 .0, (omega arith, (omega (arith, s .pre .1 .1), (omega arith, (blank-some (length (c .before .before .before .before .clear .last .0) - 1 + hand - hand) (omega (arith, clear-long (c .before .before .before .before), s .pre .1 .1)), blank-few (length (c .before .before .before .before .clear .last .0) - 1 + hand - hand)))))))
 
 loop-holds : tie.Need-loop-holds Inv-loop μ-loop
 loop-holds c =
@@ -89,7 +89,7 @@ lay-hand-requires c κs =
     let p = s .pre .1 .1 in (
       (s .pre .0, (s .pre .1 .0, (omega (arith, long, p), (omega (arith, long, p), omega (arith, long, p))))),
       (
-        (omega arith, a .loop .inv .lined),
+        (refl, (c .before .before .before .loop-test .taken, a .loop .inv .lined)),
         (summing-window D rain (s .args .own) (s .args .from) _ (a .loop .inv), summing-sums D rain (s .args .own) (s .args .from) _ (a .loop .inv)),
       ),
     )

@@ -42,7 +42,7 @@ loop-holds c =
     (c .before .before .before .clear .ensures ∙ ap (rowsFrom (λ (k : ℕ). 0) 1) (sym (cleared c))) refl
 
 fill-weights-requires : tie.Need-fill-weights-requires Inv-loop μ-loop
-fill-weights-requires c κs = let a = c .before .before in (numbers a .timed, (omega arith, (a .loop .inv .drawn, a .loop .inv .eight)))
+fill-weights-requires c κs = let a = c .before .before in ((numbers a .timed, (refl, c .before .loop-test .taken)), (a .loop .inv .drawn, a .loop .inv .eight))
 
 -- where a hand's depths begin
 begins : (c : tie.After-less Inv-loop μ-loop) → c .less .result ≡ start (c .before .before .before .before) .args .lead - c .before .before .before .before .loop .done - 8
@@ -80,7 +80,7 @@ again c =
     let fill = c .before .before .before .before .before .before .before .fill-weights in
     let more : a .loop .done < weights (own .peak) D = omega (arith, c .before .before .before .before .before .before .before .before .before .loop-test .taken) in
     summing-turn D own q lead n (a .loop .inv) (s .pre .0 .1 .0) (fits a) more (fill .ensures .1) (fill .ensures .0)
-    (c .before .before .lay .ensures ∙ ap (λ (z : List ℕ). plus (handful (fill .last .1 .1 .1 .1 .0) z) 1 (a .loop .sums)) (tail-part q _ ∙ ap (λ (z : ℕ). drop z q) (begins (c .before .before .before .before .before .before))))
+    (c .before .before .lay .ensures ∙ ap (λ (z : List ℕ). plus (handful (fill .last .1 .1 .1 .1 .1 .0) z) 1 (a .loop .sums)) (tail-part q _ ∙ ap (λ (z : ℕ). drop z q) (begins (c .before .before .before .before .before .before))))
 
 same-length : tie.Need-same-length Inv-loop μ-loop
 same-length c = summing-length _ _ _ _ _ (c .before .loop .inv) ∙ cleared (c .before .before)

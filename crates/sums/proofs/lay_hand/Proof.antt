@@ -1,5 +1,5 @@
 -- `sums::lay_hand` meets its contract. Assumes nothing.
-use mathlib.Core.Path.{_≡_, sym, _∙_}
+use mathlib.Core.Path.{_≡_, refl, sym, _∙_}
 use mathlib.Core.List.{List, _++_}
 use Prim.Native.Nat.{ℕ, _+_, _-_, _<_}
 use native.Mathlib.Omega.{arith}
@@ -33,10 +33,12 @@ each f =
     let s = S f in
     window-full (s .args .own .tenths) (s .args .rain .now) (s .args .from) (s .args .done) (rows f) (s .args .q .now) (s .pre .1 .1 .0) (deep f) (f .before .before .before .before .fill-depths .ensures)
 
+-- few weights are laid
+few : (s : tie.Start) → s .args .done < 512
+few s = omega (arith, s .pre .1 .0, weights-most (s .args .step) (s .args .own .peak) (s .pre .0 .0 .timed))
+
 add-back : tie.Need-add-fill-depths-2
-add-back c =
-    let s = c .before .before .before in
-    omega (arith, s .pre .1 .0 .0, weights-most (s .args .step) (s .args .own .peak) (s .pre .0 .0 .timed))
+add-back c = omega (arith, few (c .before .before .before))
 
 front : tie.Need-slice-aggregate-fill-depths
 front c =
@@ -47,9 +49,13 @@ fill-depths-requires : tie.Need-fill-depths-requires
 fill-depths-requires c κs =
     let s = c .before .before .before .before in
     let m = s .pre .0 .1 .1 in
-    let few = weights-most (s .args .step) (s .args .own .peak) (s .pre .0 .0 .timed) in
     let long = length-take-le hand (s .args .q .now) (omega (arith, s .pre .1 .1 .0 .long)) in
-    (s .pre .0 .0 .curved, (s .pre .0 .1 .0, (omega arith, (omega (arith, m), (omega (arith, s .pre .1 .0 .0, few), omega (arith, long))))))
+    (s .pre .0 .0 .curved, (s .pre .0 .1 .0, (omega arith, (omega (arith, m), (omega (arith, few s), (omega (arith, long), omega (arith, long)))))))
+
+fill-weights-requires : tie.Need-fill-weights-requires
+fill-weights-requires c κs =
+    let s = c .before .before .before .before .before .before .before .before in
+    ((s .pre .0 .0 .timed, (s .pre .1 .0 .0, s .pre .1 .0 .1 .0)), (s .pre .1 .0 .1 .1, refl))
 
 lay-requires : tie.Need-lay-requires
 lay-requires c κs =
@@ -89,4 +95,4 @@ returns c =
 pub lay-hand-spec : {M : Type 1} → statement M
 lay-hand-spec =
     tie.close
-    (tie.spec (λ c. search needs) (λ c. search needs) add-back (λ c. search needs) front fill-depths-requires (λ c κs. search needs) lay-requires (λ c κs. search needs) (λ c. search needs) (λ c. search needs) returns)
+    (tie.spec (λ c. search needs) (λ c. search needs) add-back (λ c. search needs) front fill-depths-requires fill-weights-requires lay-requires (λ c κs. search needs) (λ c. search needs) (λ c. search needs) returns)
