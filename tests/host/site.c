@@ -240,8 +240,8 @@ void random_patches(u64 *record, struct prng *r, size_t count, u64 most)
     bool alike = chance(r, 40);
     record[BT_PATCH_COUNT] = count;
     for (size_t i = 0; i < count; i++) {
-        u64 cover = between(r, 1, 22), soil = between(r, 1, 4);
-        set_triple(patch_at(record, i), cover, soil, alike ? same : between(r, 1, each));
+        u64 area = alike ? same : between(r, 1, each), soil = between(r, 1, 4);
+        set_triple(patch_at(record, i), between(r, 1, 22), soil, area);
     }
 }
 
@@ -442,10 +442,10 @@ void likely_site(struct site *s, struct prng *r)
     s->rule = random_rule(r);
     set_rows(s, n + (chance(r, 80) ? below(r, 60) : 0));
     random_rain(s, r, n, chance(r, 90) ? between(r, 100, 9000) : between(r, 0, 30000));
-    size_t count = likely_count(r);
-    random_subareas(s, r, count, chance(r, 70) ? between(r, 2000, 30000) : 200000);
-    size_t rows = chance(r, 80) ? between(r, 2, 12) : between(r, 2, 64);
-    random_pond(s, r, rows, all_water(s) * between(r, 2, 130) / 100);
+    u64 area = chance(r, 70) ? between(r, 2000, 30000) : 200000;
+    random_subareas(s, r, likely_count(r), area);
+    u64 water = all_water(s) * between(r, 2, 130) / 100;
+    random_pond(s, r, chance(r, 80) ? between(r, 2, 12) : between(r, 2, 64), water);
 }
 
 void large_site(struct site *s, struct prng *r)
@@ -454,8 +454,8 @@ void large_site(struct site *s, struct prng *r)
     s->first = below(r, 1000000);
     s->rule = random_rule(r);
     set_rows(s, BT_MOST_ROWS);
-    size_t steps = chance(r, 50) ? BT_MOST_ROWS : between(r, 200, BT_MOST_ROWS);
-    random_rain(s, r, steps, between(r, 2000, 30000));
+    u64 total = between(r, 2000, 30000);
+    random_rain(s, r, chance(r, 50) ? BT_MOST_ROWS : between(r, 200, BT_MOST_ROWS), total);
     random_subareas(s, r, BT_MOST_SUBAREAS, 200000);
     for (size_t i = 0; i < BT_MOST_SUBAREAS; i++)
         random_path_of(s->rule, record_at(s, i), r, between(r, 10190, 10191)); /* Tp 6,144 */
@@ -471,14 +471,14 @@ u64 nasty(struct prng *r, u64 was)
         200000, 1000000, 10000000, 4294967296, 217800000000, 1000000000000, 9007199254740991, 9223372036854775807,
         UINT64_MAX,
     };
-    u64 edge = edges[below(r, sizeof edges / sizeof *edges)];
     switch (below(r, 6)) {
     case 0: return was + 1;
     case 1: return was - 1;
     case 2: return any_width(r);
     case 3: return was + (between(r, 1, 3) << 32);
-    default: return edge + below(r, 3) - 1;
     }
+    u64 edge = edges[below(r, sizeof edges / sizeof *edges)];
+    return edge + below(r, 3) - 1;
 }
 
 static void spoil_number(struct list *l, struct prng *r)
