@@ -10,7 +10,8 @@
  *     many as its parameter says;
  *   - no lent list overlaps another, nor an answer;
  *   - nobody else writes to them while a call runs;
- *   - the stack has room for the call: under 36,000 bytes on x86-64, measured and not proved (docs/HOST.md, 'Stack').
+ *   - the stack has room for the call: under 2,048 bytes for bt_study, bt_edit, bt_inflow and bt_mark, under 36,000 for the
+ *     others, measured and not proved (docs/HOST.md, 'Stack').
  * Any numbers and any lengths may stand in them: what is out of limits is refused.
  */
 #ifndef BRIDLETENON_H
