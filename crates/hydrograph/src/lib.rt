@@ -115,12 +115,6 @@ pub fn weight(peak: u64, step: u64, j: u64) -> u64
     )
 }
 
-fn wide(x: u32) -> u64
-    ensures { λ r. ⌜ r ≡ x ⌝ }
-{
-    x as u64
-}
-
 // The line on which a time lies, looked for from a line at or before it.
 fn line_from(peak: u64, t: u64, from: usize) -> usize
     requires { ⌜ (peak ≤ 400000) × ((t ≤ 50 * peak) × (from ≤ lineAt peak t)) ⌝ }
@@ -289,7 +283,7 @@ fn sum_of_hand(list: &[u32; HAND]) -> u64
     let mut sum = 0;
     let mut i = 0;
     while i < HAND {
-        sum += wide(list[i]);
+        sum += laws::wide(list[i]);
         i += 1;
     }
     sum
@@ -326,7 +320,7 @@ pub fn dot(
     let mut sum = 0;
     let mut i = 0;
     while i < n {
-        sum += wide(weights[i]) * wide(depths[k - i]);
+        sum += laws::wide(weights[i]) * laws::wide(depths[k - i]);
         i += 1;
     }
     sum

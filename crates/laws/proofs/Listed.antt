@@ -7,8 +7,8 @@ use native.Mathlib.Nat.{add-zero, le-of-suc-le-suc}
 use native.Mathlib.Omega.{arith}
 use borrow.Author.Tests.{eq-eqb, ne-eqb}
 use lib.Dec.{eqb}
-use lib.ListN.{length, getD, take, drop, set, length-set}
-use lib.Seq.{ext-getD, getD-drop, drop-drop, drop-set-lt, getD-set-same, getD-set-other}
+use lib.ListN.{length, getD, take, drop, set, length-set, length-drop}
+use lib.Seq.{ext-getD, getD-take, getD-drop, length-take-le, drop-drop, drop-set-lt, getD-set-same, getD-set-other}
 use Rattle.laws.specs.Pick.{pick}
 use Rattle.laws.specs.Sum.{sumTo}
 use Rattle.laws.specs.Listed.{rowsFrom, plus}
@@ -39,6 +39,12 @@ rows-same f g k (suc n) h = rw (h k, rows-same f g (k + 1) n h)
 pub rows-are : (f : ℕ → ℕ) (k n : ℕ) (l : List ℕ) → length l ≡ n → ((i : ℕ) → i < n → getD l i 0 ≡ f (k + i)) → l ≡ rowsFrom f k n
 rows-are f k n l long each =
     ext-getD 0 l (rowsFrom f k n) (long ∙ sym (rows-length f k n)) (λ i h. each i (omega arith) ∙ sym (rows-at f k n i (omega arith)))
+
+-- a part of the rows
+pub rows-part : (f : ℕ → ℕ) (m from n : ℕ) → from + n ≤ m → take n (drop from (rowsFrom f 1 m)) ≡ rowsFrom f (from + 1) n
+rows-part f m from n l =
+    rows-are f (from + 1) n (take n (drop from (rowsFrom f 1 m))) (length-take-le n (drop from (rowsFrom f 1 m)) (omega (arith, length-drop from (rowsFrom f 1 m), rows-length f 1 m)))
+    (λ i h. let e : 1 + (from + i) ≡ from + 1 + i = omega arith in getD-take n (drop from (rowsFrom f 1 m)) i 0 h ∙ getD-drop from (rowsFrom f 1 m) i 0 ∙ rows-at f 1 m (from + i) (omega arith) ∙ ap f e)
 
 -- of functions that agree on these rows
 pub rows-agree : (f g : ℕ → ℕ) (k n : ℕ) → ((i : ℕ) → i < n → f (k + i) ≡ g (k + i)) → rowsFrom f k n ≡ rowsFrom g k n

@@ -29,6 +29,13 @@ pub fn least(a: usize, b: usize) -> usize
     if a < b { a } else { b }
 }
 
+// A narrow number, of a list that is kept short, as it is worked with.
+pub fn wide(x: u32) -> u64
+    ensures { λ r. ⌜ r ≡ x ⌝ }
+{
+    x as u64
+}
+
 // Writes zeros over a list.
 pub fn clear(rows: &mut [u64])
     ensures { λ _. ⌜ now (rows .exit) ≡ rowsFrom (λ (k : ℕ). 0) 1 (length (now (rows .entry))) ⌝ }

@@ -1,3 +1,3 @@
 pub mod Listing
-pub mod Blocks
+pub mod Most
 pub mod Answers

@@ -25,7 +25,7 @@ use Rattle.sums.specs.declared.Numbers.{Numbers}
 use Rattle.sums.specs.Needs.{NumbersOk}
 use Rattle.parts.specs.Needs.{partBy}
 use Rattle.subarea.specs.declared.Setup.{Setup}
-use Rattle.subarea.specs.Records.{recordsIn, recordAt, areaOf, curveTenths, peakOf, patches}
+use Rattle.subarea.specs.Records.{recordsIn, recordAt, areaOf, curveTenths, patches}
 use Rattle.subarea.specs.Needs.{AllPatches}
 use Rattle.subarea.proofs.Subareas.{patches-fit}
 use Rattle.checks.specs.Needs.{ListOk}

@@ -43,12 +43,6 @@ pub fn list_peaks(
     }
 }
 
-fn wide(x: u32) -> u64
-    ensures { λ r. ⌜ r ≡ x ⌝ }
-{
-    x as u64
-}
-
 // Subarea i's numbers, as they are listed.
 fn listed_numbers(
     subareas: &[u64],
@@ -61,7 +55,7 @@ fn listed_numbers(
 {
     let a = subarea::WIDTH * i;
     let e = a + subarea::WIDTH;
-    inflow::numbers_with(&subareas[a..e], wide(peaks[i]), wide(totals[i]))
+    inflow::numbers_with(&subareas[a..e], laws::wide(peaks[i]), laws::wide(totals[i]))
 }
 
 // Writes the inflow of a block of rows, those after row `from`.

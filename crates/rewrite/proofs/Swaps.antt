@@ -11,6 +11,7 @@ use Rattle.parts.specs.Needs.{partBy}
 use Rattle.checks.specs.Site.{Rows}
 use Rattle.alter.specs.Altering.{swapped}
 use Rattle.alter.specs.Needs.{PartsFit}
+use Rattle.alter.proofs.Swapping.{swapped-length}
 use Rattle.fitting.specs.Needs.{newAfter, TailFit}
 use Rattle.fitting.proofs.Swaps.{swapped-drop, part-parts}
 use Rattle.rewrite.specs.Needs.{newBy, SwapFit}
@@ -27,6 +28,10 @@ module _ (D : ℕ) (rain p : List ℕ) (old own : Numbers) where
 
   abbrev g : ℕ → ℕ
   g = partBy D rain own
+
+  -- as many new inflow rows as there were
+  pub new-long : (vs : List ℕ) → length (newBy D rain old own vs) ≡ length vs
+  new-long vs = swapped-length f g 1 vs
 
   -- the new inflow of the rows from row a on
   pub tail-new : (a : ℕ) (vs : List ℕ) → newAfter D rain old own a (drop a vs) ≡ drop a (newBy D rain old own vs)

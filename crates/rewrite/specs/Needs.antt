@@ -11,12 +11,12 @@ use Rattle.pond.specs.Needs.{PondOk}
 use Rattle.rows.specs.Needs.{InflowOk, RowsOk}
 use Rattle.rows.specs.declared.RowFigures.{RowFigures}
 use Rattle.checks.specs.Site.{Rows}
-use Rattle.alter.specs.Altering.{swapped}
 use Rattle.alter.specs.Needs.{PartsFit}
+use Rattle.fitting.specs.Needs.{newAfter}
 
 -- the new inflow rows, by the numbers of the old record and the fresh one
 abbrev pub newBy : ℕ → List ℕ → Numbers → Numbers → List ℕ → List ℕ
-newBy D rain old own vs = swapped (partBy D rain old) (partBy D rain own) 1 vs
+newBy D rain old own vs = newAfter D rain old own 0 vs
 
 -- figures whose difference has room
 pub record SmallOk (f : RowFigures) : Type 0 where

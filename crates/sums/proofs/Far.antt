@@ -9,7 +9,7 @@ use Rattle.laws.specs.Sum.{sumTo}
 use Rattle.laws.specs.Listed.{rowsFrom, plus}
 use Rattle.laws.proofs.Listed.{rows-length, rows-at, rows-same, rows-are}
 use Rattle.hydrograph.specs.InflowRows.{lineAt, weights}
-use Rattle.hydrograph.specs.Needs.{hand, weighed, mostDepth, TimingOk, Below}
+use Rattle.hydrograph.specs.Needs.{hand, weighed, mostDepth, Below}
 use Rattle.hydrograph.proofs.Lines.{line-next}
 use Rattle.sums.specs.Needs.{handful, sumIn, NumbersOk}
 use Rattle.sums.specs.declared.Numbers.{Numbers}

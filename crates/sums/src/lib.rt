@@ -6,7 +6,7 @@ pub mod depths;
 
 use hydrograph::HAND;
 ghost use mathlib.Core.Path.{_≡_};
-ghost use Prim.Native.Nat.{ℕ, _+_, _-_, _*_, _≤_, _<_};
+ghost use Prim.Native.Nat.{_+_, _-_, _*_, _≤_, _<_};
 ghost use lib.ListN.{length, getD};
 ghost use Rattle.laws.specs.Limits.{mostRows};
 ghost use Rattle.laws.specs.Listed.{plus, rowsFrom};
@@ -30,12 +30,6 @@ pub const SUMS: usize = BLOCK + 1;
 
 // The depths that a hand of weights asks for over a block's sums.
 const WINDOW: usize = BLOCK + HAND;
-
-fn wide(x: u32) -> u64
-    ensures { λ r. ⌜ r ≡ x ⌝ }
-{
-    x as u64
-}
 
 // x, which is below 2^32; it tells the compiler so, which then multiplies by halves.
 fn narrow(x: u64) -> u64
@@ -62,14 +56,14 @@ fn eight_of(w: &[u32; HAND]) -> Eight
     ensures { λ r. ⌜ EightOf (now (w .entry)) r ⌝ }
 {
     Eight {
-        w0: wide(w[0]),
-        w1: wide(w[1]),
-        w2: wide(w[2]),
-        w3: wide(w[3]),
-        w4: wide(w[4]),
-        w5: wide(w[5]),
-        w6: wide(w[6]),
-        w7: wide(w[7]),
+        w0: laws::wide(w[0]),
+        w1: laws::wide(w[1]),
+        w2: laws::wide(w[2]),
+        w3: laws::wide(w[3]),
+        w4: laws::wide(w[4]),
+        w5: laws::wide(w[5]),
+        w6: laws::wide(w[6]),
+        w7: laws::wide(w[7]),
     }
 }
 

@@ -10,18 +10,16 @@ use Rattle.laws.specs.Limits.{mostRows}
 use Rattle.laws.proofs.Fill.{tail-part}
 use Rattle.pond.specs.Needs.{StateOk}
 use Rattle.pond.specs.declared.State.{State}
-use Rattle.parts.specs.Needs.{partBy}
 use Rattle.rows.specs.Routing.{overRow, stateBefore, total}
 use Rattle.rows.proofs.Coming.{over-most}
 use Rattle.checks.specs.Site.{Rows, rowsNow}
 use Rattle.refusals.specs.Refusals.{refuse}
 use Rattle.alter.specs.Altering.{firstChanged}
-use Rattle.alter.proofs.Swapping.{swapped-length}
 use Rattle.edit.specs.declared.EditAnswer.the-variants.{Refused, Done}
 use Rattle.fitting.specs.Needs.{newAfter, TailFit}
 use Rattle.fitting.proofs.Swaps.{part-inflow}
 use Rattle.rewrite.specs.Needs.{newBy}
-use Rattle.rewrite.proofs.Swaps.{tail-new, tail-fit}
+use Rattle.rewrite.proofs.Swaps.{new-long, tail-new, tail-fit}
 use Rattle.rewrite.proofs.Changed.{changed-most, changed-total, before-ok}
 use Rattle.edit.proofs.Settling.{over-stops, over-passes}
 use Rattle.edit.proofs.settle.Statement.{statement}
@@ -35,7 +33,7 @@ abbrev ws : tie.Start → List ℕ
 ws s = newBy (s .args .step) (s .args .rain .now) (s .args .old) (s .args .own) (s .args .inflow .now)
 
 long : (s : tie.Start) → length (ws s) ≡ length (s .args .inflow .now)
-long s = swapped-length (partBy (s .args .step) (s .args .rain .now) (s .args .old)) (partBy (s .args .step) (s .args .rain .now) (s .args .own)) 1 (s .args .inflow .now)
+long s = new-long (s .args .step) (s .args .rain .now) (s .args .pond .now) (s .args .old) (s .args .own) (s .args .inflow .now)
 
 few : (s : tie.Start) → length (s .args .inflow .now) ≤ mostRows
 few s = omega (arith, s .pre .0 .out-long, s .pre .0 .rows .few)

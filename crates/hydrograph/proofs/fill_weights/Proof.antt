@@ -1,7 +1,7 @@
 -- `hydrograph::fill_weights` meets its contract. Assumes nothing.
 use mathlib.Core.Path.{_≡_}
 use mathlib.Core.Logic.{⊎-elim}
-use Prim.Native.Nat.{_+_, _-_, _*_, _≤_, _<_}
+use Prim.Native.Nat.{_+_, _-_, _*_, _<_}
 use native.Mathlib.Omega.{arith}
 use Rattle.hydrograph.specs.InflowRows.{weights}
 use Rattle.hydrograph.specs.Needs.{PenReady, hand}

@@ -1,6 +1,6 @@
 -- `hydrograph::total_weight` meets its contract. Assumes nothing.
 use mathlib.Core.Path.{refl}
-use Prim.Native.Nat.{_+_, _-_, _*_, _≤_}
+use Prim.Native.Nat.{_+_, _-_, _≤_}
 use native.Mathlib.Omega.{arith}
 use Rattle.hydrograph.proofs.Weights.{peak-most, weights-most}
 use Rattle.hydrograph.proofs.Hands.{Totalling, totalling-start, total-most, totalling-turn, totalling-end, hand-below, hand-few}

@@ -6,10 +6,10 @@ use native.Mathlib.Omega.{arith}
 use borrow.Author.Needs.{needs}
 use borrow.Author.Tests.{eqb-true}
 use lib.ListN.{length, drop, replicate, length-append}
-use lib.Seq.{length-take-le}
+use lib.Seq.{take-at, length-take-le}
 use Rattle.laws.specs.Limits.{mostRows}
 use Rattle.laws.specs.Listed.{rowsFrom, plus}
-use Rattle.laws.proofs.Fronts.{front, front-has, front-long}
+use Rattle.laws.proofs.Fronts.{front-has, front-long}
 use Rattle.laws.proofs.Listed.{rows-length}
 use Rattle.hydrograph.specs.InflowRows.{runoffAt, weights}
 use Rattle.sums.specs.Needs.{blockRows}
@@ -76,7 +76,7 @@ returns c =
     let s = start f in
     let n = length (s .args .rows .now) + 1 in
     c .before .before .add-volumes .ensures
-    ∙ ap (λ (l : List ℕ). plus (volumeBetween (s .args .own) l) 1 (s .args .rows .now)) (front n (f .block-sums .last .1 .1 .1 .1 .0) (drop n (replicate 32 0)) (long f) ∙ written f)
+    ∙ ap (λ (l : List ℕ). plus (volumeBetween (s .args .own) l) 1 (s .args .rows .now)) (take-at (f .block-sums .last .1 .1 .1 .1 .0) (drop n (replicate 32 0)) n (long f) ∙ written f)
     ∙ between-parts (s .args .step) (s .args .rain .now) (s .args .own) (s .pre .0) (s .pre .1 .0) (s .args .from) (s .args .rows .now)
 
 pub add-block-spec : {M : Type 1} → statement M

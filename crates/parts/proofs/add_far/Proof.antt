@@ -5,10 +5,10 @@ use Prim.Native.Nat.{ℕ, _+_, _-_, _≤_}
 use native.Mathlib.Omega.{arith}
 use borrow.Author.Needs.{needs}
 use lib.ListN.{length, take, drop}
-use lib.Seq.{length-take-le}
+use lib.Seq.{take-at, length-take-le}
 use Rattle.laws.specs.Limits.{mostRows}
 use Rattle.laws.specs.Listed.{rowsFrom, plus}
-use Rattle.laws.proofs.Fronts.{front, front-has, front-long}
+use Rattle.laws.proofs.Fronts.{front-has, front-long}
 use Rattle.laws.proofs.Listed.{rows-length}
 use Rattle.hydrograph.specs.InflowRows.{weights}
 use Rattle.hydrograph.specs.Needs.{mostDepth, Below}
@@ -81,7 +81,7 @@ summed c =
     let own = s .args .own in
     let w = weights (own .peak) D in
     c .far-sums .ensures
-    ∙ ap (λ (l : List ℕ). rowsFrom (sumIn D own l w) (s .args .lead - 1) (length (take (n s) (s .args .sums .now)))) (front (end s) (f .fill-depths .last .1 .1 .1 .1 .0) (drop (end s) (s .args .q .now)) (filled-long f) ∙ filled f)
+    ∙ ap (λ (l : List ℕ). rowsFrom (sumIn D own l w) (s .args .lead - 1) (length (take (n s) (s .args .sums .now)))) (take-at (f .fill-depths .last .1 .1 .1 .1 .0) (drop (end s) (s .args .q .now)) (end s) (filled-long f) ∙ filled f)
     ∙ ap (rowsFrom (sumIn D own (asked s) w) (s .args .lead - 1)) (length-take-le (n s) (s .args .sums .now) (s .pre .1 .1 .1))
     ∙ far-is D (s .args .rain .now) own (s .pre .0 .0) (s .pre .0 .1 .0) (s .args .from) (end s) (s .args .lead) (n s) (omega (arith, s .pre .1 .0)) (omega (arith, s .pre .1 .0)) (omega arith)
 
@@ -100,7 +100,7 @@ returns c =
     let f = c .before .before .before .before .before .before .before in
     let s = before-sums f in
     c .before .before .add-volumes .ensures
-    ∙ ap (λ (l : List ℕ). plus (volumeBetween (s .args .own) l) 1 (s .args .rows .now)) (front (n s) (f .far-sums .last .1 .1 .1 .1 .0) (drop (n s) (s .args .sums .now)) (summed-long f) ∙ summed f)
+    ∙ ap (λ (l : List ℕ). plus (volumeBetween (s .args .own) l) 1 (s .args .rows .now)) (take-at (f .far-sums .last .1 .1 .1 .1 .0) (drop (n s) (s .args .sums .now)) (n s) (summed-long f) ∙ summed f)
     ∙ between-parts (s .args .step) (s .args .rain .now) (s .args .own) (s .pre .0 .0) (s .pre .0 .1 .0) (s .args .from + s .args .lead) (s .args .rows .now)
 
 -- a front that is lent is as long as was asked

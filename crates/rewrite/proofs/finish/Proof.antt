@@ -17,12 +17,11 @@ use Rattle.rows.specs.declared.RowFigures.{RowFigures}
 use Rattle.rows.proofs.Told.{over-none}
 use Rattle.alter.specs.Altering.{changedAt, outflowsFrom, storagesFrom}
 use Rattle.alter.specs.Needs.{PartsFit}
-use Rattle.alter.proofs.Swapping.{swapped-length}
 use Rattle.checks.specs.Site.{Rows, rowsNow}
 use Rattle.fitting.specs.Needs.{newAfter}
 use Rattle.rewrite.specs.Rewriting.{rerouted, figuresIn, told, editedOf}
 use Rattle.rewrite.specs.Needs.{newBy}
-use Rattle.rewrite.proofs.Swaps.{tail-new, tail-fit}
+use Rattle.rewrite.proofs.Swaps.{new-long, tail-new, tail-fit}
 use Rattle.rewrite.proofs.Changed.{rows-equal, rows-left, figures-small, changed-most, tail-written}
 use Rattle.rewrite.proofs.finish.Statement.{statement}
 use Rattle.rewrite.proofs.finish.Tie as tie
@@ -35,7 +34,7 @@ abbrev ws : tie.Start → List ℕ
 ws s = newBy (s .args .step) (s .args .rain .now) (s .args .old) (s .args .own) (s .args .inflow .now)
 
 long : (s : tie.Start) → length (ws s) ≡ length (s .args .inflow .now)
-long s = swapped-length (partBy (s .args .step) (s .args .rain .now) (s .args .old)) (partBy (s .args .step) (s .args .rain .now) (s .args .own)) 1 (s .args .inflow .now)
+long s = new-long (s .args .step) (s .args .rain .now) (s .args .pond .now) (s .args .old) (s .args .own) (s .args .inflow .now)
 
 -- the first changed row is a row, or their number
 most : (s : tie.Start) → s .args .a ≤ length (s .args .inflow .now)

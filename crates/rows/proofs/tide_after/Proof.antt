@@ -1,7 +1,6 @@
 -- `rows::tide_after` meets its contract. Assumes nothing.
-use mathlib.Core.Path.{_≡_, ap}
+use mathlib.Core.Path.{ap}
 use borrow.Author.Needs.{needs}
-use Rattle.pond.specs.declared.State.{State}
 use Rattle.rows.specs.declared.Dry.{Dry}
 use Rattle.rows.proofs.tide_after.Statement.{statement}
 use Rattle.rows.proofs.tide_after.Tie as tie

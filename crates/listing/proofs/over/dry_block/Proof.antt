@@ -5,10 +5,10 @@ use Prim.Native.Nat.{ℕ, _+_, _≤_}
 use native.Mathlib.Omega.{arith}
 use borrow.Author.Needs.{needs}
 use lib.ListN.{length, length-take, length-append}
-use lib.Seq.{length-take-le}
+use lib.Seq.{take-at, length-take-le}
 use Rattle.laws.specs.Limits.{mostRows}
 use Rattle.laws.specs.Listed.{rowsFrom}
-use Rattle.laws.proofs.Fronts.{front-long, front, front-has}
+use Rattle.laws.proofs.Fronts.{front-long, front-has}
 use Rattle.laws.proofs.Listed.{rows-length}
 use Rattle.rows.specs.Needs.{InflowOk, tideOf}
 use Rattle.sums.specs.Needs.{blockRows}
@@ -51,7 +51,7 @@ returns c =
     let s = c .before .before .before .before .before .before .before .before .before in
     let f = c .before .before .before .before in
     c .tide-after .ensures
-    ∙ ap (tideOf (halfOf (s .args .setup)) (s .args .pond .now) (s .args .last)) (front (s .args .n) (f .fill-block .last .1 .1 .1 .1 .1 .1 .0) _ (long f) ∙ filled f)
+    ∙ ap (tideOf (halfOf (s .args .setup)) (s .args .pond .now) (s .args .last)) (take-at (f .fill-block .last .1 .1 .1 .1 .1 .1 .0) _ (s .args .n) (long f) ∙ filled f)
 
 pub dry-block-spec : {M : Type 1} → statement M
 dry-block-spec =

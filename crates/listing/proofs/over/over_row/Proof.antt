@@ -5,7 +5,7 @@ use Prim.Native.Nat.{ℕ, _+_, _-_, _≤_}
 use native.Mathlib.Omega.{arith}
 use borrow.Author.Needs.{needs}
 use lib.ListN.{length, take, drop}
-use Rattle.laws.proofs.Listed.{rows-length}
+use Rattle.laws.proofs.Listed.{rows-part, rows-length}
 use Rattle.pond.specs.PondRows.{empty}
 use Rattle.pond.proofs.Steps.{empty-ok}
 use Rattle.rows.specs.Needs.{tideOf}
@@ -13,7 +13,7 @@ use Rattle.rows.proofs.Coming.{Coming, coming-start, coming-ok, coming-arrive, 
 use Rattle.subarea.specs.Records.{halfOf}
 use Rattle.inflow.specs.Inflow.{inflowAt, inflowRows}
 use Rattle.listing.proofs.Listing.{most-of}
-use Rattle.listing.proofs.Blocks.{rows-part, inflow-all}
+use Rattle.listing.proofs.Most.{inflow-all}
 use Rattle.listing.proofs.over.over_row.Statement.{statement}
 use Rattle.listing.proofs.over.over_row.Tie as tie
 
