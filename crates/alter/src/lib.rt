@@ -1,6 +1,8 @@
 // What an edit works out before it routes: the checks up to 13, the new inflow rows, the first changed row, the class areas
 // of the altered list.
 // Units: rain in thousandths of an inch, inflow volumes in thousandths of a cubic foot; a place counts the subareas from 1.
+#![tactic(auto)]
+
 pub mod order;
 
 ghost use Rattle.std.specs.Prelude.{◌≡◌, ℕ, ◌+◌, ◌-◌, ◌≤◌, length};

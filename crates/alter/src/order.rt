@@ -56,7 +56,7 @@ pub fn edit_checks(
     fresh: &[u64],
 ) -> Refusal
     requires { length fresh.now ≡ width }
-    ensures { result ≡ first_refusal (edit_check_lines (site setup rain subareas pond) (found inflow outflow storage) place fresh.now) }
+    ensures { result ≡ first_refusal (edit_check_lines (site setup rain.now subareas.now pond.now) (found inflow.now outflow.now storage.now) place fresh.now) }
 {
     let run = checks::run_checks(setup, rain, subareas, inflow, outflow, storage).or(place_check(
         subareas, place,

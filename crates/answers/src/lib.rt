@@ -1,4 +1,6 @@
 // Answers as arrays of numbers, for hosts in other languages. Each is written whole, refused or done.
+#![tactic(auto)]
+
 ghost use Rattle.std.specs.Prelude.{◌≡◌};
 ghost use Rattle.study.specs.Study.{study_refusal_in, no_figures};
 ghost use Rattle.edit.specs.Edit.{edit_refusal_in, edit_values_in};

@@ -1,7 +1,5 @@
 -- Document 01, 'What a study is made of': what is lent, as two things. Code keeps its slices.
 use Rattle.std.specs.Prelude.{List, [], ℕ, length}
-use Rattle.std.specs.Borrow.{Bor}
-use denote.Triple.Both.{Both}
 use Rattle.subarea.specs.declared.Setup.{Setup}
 
 -- the numbers of a run, the rain, the subareas and the pond
@@ -30,32 +28,25 @@ pub record Rows : Type 0 where
 abbrev pub asked : Rows → ℕ
 asked l = length l.inflow
 
--- a lent list as a `requires` and a proof have it, and as an `ensures` has it: at entry and at exit
-abbrev pub Held : Type 0
-Held = Bor (List ℕ)
+-- of a `requires`, and in a proof: from what the lists hold
+abbrev pub site_now : Setup → List ℕ → List ℕ → List ℕ → Site
+site_now g rain s p = record { setup = g; rain = rain; subareas = s; pond = p }
 
-abbrev pub Lent : Type 0
-Lent = Both Held Held
+abbrev pub basin_now : Setup → List ℕ → List ℕ → Site
+basin_now g rain s = record { setup = g; rain = rain; subareas = s; pond = [] }
 
--- of a `requires`, and in a proof
-abbrev pub site_now : Setup → Held → Held → Held → Site
-site_now g rain s p = record { setup = g; rain = rain.now; subareas = s.now; pond = p.now }
+abbrev pub rows_now : List ℕ → List ℕ → List ℕ → Rows
+rows_now v o t = record { inflow = v; outflow = o; storage = t }
 
-abbrev pub basin_now : Setup → Held → Held → Site
-basin_now g rain s = record { setup = g; rain = rain.now; subareas = s.now; pond = [] }
+-- of an `ensures`: the site, a site with no pond, the rows as found (of what the lists hold at entry) and the rows as left (of what they hold at exit)
+abbrev pub site : Setup → List ℕ → List ℕ → List ℕ → Site
+site g rain s p = site_now g rain s p
 
-abbrev pub rows_now : Held → Held → Held → Rows
-rows_now v o t = record { inflow = v.now; outflow = o.now; storage = t.now }
+abbrev pub basin : Setup → List ℕ → List ℕ → Site
+basin g rain s = basin_now g rain s
 
--- of an `ensures`: the site, a site with no pond, the rows as found and the rows as left
-abbrev pub site : Setup → Lent → Lent → Lent → Site
-site g rain s p = site_now g rain.entry s.entry p.entry
+abbrev pub found : List ℕ → List ℕ → List ℕ → Rows
+found v o t = rows_now v o t
 
-abbrev pub basin : Setup → Lent → Lent → Site
-basin g rain s = basin_now g rain.entry s.entry
-
-abbrev pub found : Lent → Lent → Lent → Rows
-found v o t = rows_now v.entry o.entry t.entry
-
-abbrev pub left : Lent → Lent → Lent → Rows
-left v o t = rows_now v.exit o.exit t.exit
+abbrev pub left : List ℕ → List ℕ → List ℕ → Rows
+left v o t = rows_now v o t

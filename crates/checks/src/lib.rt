@@ -1,5 +1,7 @@
 // The refusals 1 to 13, with 20 after 2 and 19 after 3, in their order, one function a number, in groups that a study, an edit
 // and a mark compose. Rain is in thousandths of an inch; half is half the step, in seconds.
+#![tactic(auto)]
+
 pub mod list;
 pub mod record;
 
@@ -20,7 +22,7 @@ use subarea::Setup;
 
 // 1
 fn lengths_check(inflow: &[u64], outflow: &[u64], storage: &[u64]) -> Refusal
-    ensures { result ≡ unless 1 (lengths_good (found inflow outflow storage)) }
+    ensures { result ≡ unless 1 (lengths_good (found inflow.now outflow.now storage.now)) }
 {
     let m = inflow.len();
     let some = laws::both(1 <= m, m <= limits::MOST_ROWS);
@@ -155,7 +157,7 @@ fn records_check(subareas: &[u64]) -> Refusal
 
 // Refusals 1 and 2.
 pub fn frame_checks(step: u64, inflow: &[u64], outflow: &[u64], storage: &[u64]) -> Refusal
-    ensures { result ≡ first_refusal (frame_lines step (found inflow outflow storage)) }
+    ensures { result ≡ first_refusal (frame_lines step (found inflow.now outflow.now storage.now)) }
 {
     lengths_check(inflow, outflow, storage).or(step_check(step))
 }
@@ -179,7 +181,7 @@ pub fn run_checks(
     outflow: &[u64],
     storage: &[u64],
 ) -> Refusal
-    ensures { result ≡ first_refusal (run_lines (basin setup rain subareas) (found inflow outflow storage)) }
+    ensures { result ≡ first_refusal (run_lines (basin setup rain.now subareas.now) (found inflow.now outflow.now storage.now)) }
 {
     let frame = frame_checks(setup.step, inflow, outflow, storage);
     let rule = rule_check(setup.rule);
@@ -242,7 +244,7 @@ pub fn inflow_checks(
     outflow: &[u64],
     storage: &[u64],
 ) -> Refusal
-    ensures { result ≡ first_refusal (inflow_lines (basin setup rain subareas) (found inflow outflow storage)) }
+    ensures { result ≡ first_refusal (inflow_lines (basin setup rain.now subareas.now) (found inflow.now outflow.now storage.now)) }
 {
     let v = run_checks(setup, rain, subareas, inflow, outflow, storage);
     if v.number != 0 {
@@ -261,7 +263,7 @@ pub fn study_checks(
     outflow: &[u64],
     storage: &[u64],
 ) -> Refusal
-    ensures { result ≡ first_refusal (check_lines (site setup rain subareas pond) (found inflow outflow storage)) }
+    ensures { result ≡ first_refusal (check_lines (site setup rain.now subareas.now pond.now) (found inflow.now outflow.now storage.now)) }
 {
     let v = inflow_checks(setup, rain, subareas, inflow, outflow, storage);
     if v.number != 0 {

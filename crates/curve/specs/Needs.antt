@@ -1,5 +1,5 @@
 -- What contracts ask of patches and curve numbers, and proofs use; no rule of document 01 is here.
-use Rattle.std.specs.Prelude.{◌≡◌, List, ℕ, ◌-◌, ◌*◌, ◌≤◌, ◌<◌, length}
+use Rattle.std.specs.Prelude.{◌≡◌, List, ℕ, ◌*◌, ◌≤◌, ◌<◌, length}
 use Rattle.laws.specs.Limits.{most_area}
 use Rattle.curve.specs.CurveNumbers.{patch_width, most_patches, patches_in, cover, soil, area}
 

@@ -1,3 +1,4 @@
+#![tactic(auto)]
 // Curve numbers: the cover table, the classes, and the composite curve number of a subarea's patches, in tenths.
 // A list of patches is flat, three numbers a patch: cover code, soil group, area in hundredths of an acre.
 ghost use Rattle.std.specs.Prelude.{◌≡◌, ◌+◌, ◌*◌, ◌<◌, eqb};
@@ -48,14 +49,14 @@ const LOTS: u64 = 3;
 const RURAL: u64 = 4;
 
 // What a subarea's patches come to: their area, in hundredths of an acre, and their composite curve number, in tenths.
-#[derive(Drop)]
+#[derive(Clone, Copy)]
 pub struct Ground {
     pub area: u64,
     pub tenths: u64,
 }
 
 // The area in each class, in hundredths of an acre.
-#[derive(Drop)]
+#[derive(Clone, Copy)]
 pub struct Classes {
     pub surfaces: u64,
     pub districts: u64,

@@ -1,10 +1,15 @@
 // One study: its file read, both engines run over it, and what they say of it. Each function gives 1 where they differ, else 0;
 // a file that is no study's has its line on standard error and is none that differs.
 ghost use Rattle.std.specs.Prelude.{◌≤◌};
+ghost use Rattle.io.specs.Counts.{IsPrefixLen};
 ghost use Rattle.reading.specs.Bounds.{rows_room};
 
 use crate::{texts, verdicts};
 use reading::room::{POND_ROOM, RAIN_ROOM, ROWS_ROOM, SUBAREAS_ROOM};
+use std::env::Env;
+use std::fs;
+use std::io::Read;
+use std::rt::Files;
 use subarea::Setup;
 
 // Of the outflow and storage lists an engine reads the lengths alone, so that one list serves as both.
@@ -64,44 +69,63 @@ fn laid(name: &[u8], s: &[u8]) -> u64
     lent(site.setup, site.rows, &rain[0..a], &subareas[0..b])
 }
 
+// Reads until the buffer is full, the file ends or a read fails, and gives how many bytes stand in front.
+fn read_full<F: Read>(file: &mut F, buf: &mut [u8]) -> usize
+    ensures { IsPrefixLen result buf.new }
+{
+    let mut done = 0;
+    while done < buf.len() {
+        match file.read(&mut buf[done..]) {
+            Ok(0) => break,
+            Ok(n) => done += n,
+            Err(_) => break,
+        }
+    }
+    done
+}
+
 // One byte more is asked for, which tells a file that ends from one that cannot be read or is too long.
-fn read(name: &[u8], fd: i32) -> u64
+fn read<F: Read + Drop>(name: &[u8], mut file: F) -> u64
     ensures { result ≤ 1 }
 {
     let mut buf = io::large_buffer();
-    let n = io::read_full(fd, &mut buf);
+    let n = read_full(&mut file, &mut buf);
     let mut more = [0u8; 1];
-    let rest = libc::read(fd, &mut more);
-    if rest < 0 {
-        return faulty(name, texts::UNREAD, 0);
+    match file.read(&mut more) {
+        Err(_) => faulty(name, texts::UNREAD, 0),
+        Ok(0) => laid(name, &buf[..n]),
+        Ok(_) => faulty(name, texts::TOO_LONG, 0),
     }
-    if rest > 0 {
-        return faulty(name, texts::TOO_LONG, 0);
-    }
-    laid(name, &buf[..n])
 }
 
-pub(crate) fn opened(name: &[u8]) -> u64
+// A path is UTF-8 text.
+pub(crate) fn opened(rt: &impl Files, name: &[u8]) -> u64
     ensures { result ≤ 1 }
 {
-    let fd = os::open_read(name);
-    if fd < 0 {
-        return faulty(name, texts::UNOPENED, 0);
+    match std::str::from_utf8(name) {
+        Err(_) => faulty(name, texts::UNOPENED, 0),
+        Ok(path) => match fs::open(rt, path) {
+            Err(_) => faulty(name, texts::UNOPENED, 0),
+            Ok(file) => read(name, file),
+        },
     }
-    let differ = read(name, fd);
-    libc::close(fd);
-    differ
+}
+
+fn unnamed(i: usize) -> u64
+    ensures { result ≤ 1 }
+{
+    texts::fault(texts::NO_NAME, &[i as u64]);
+    0
 }
 
 // An argument that is empty or too long for a path has no bytes here.
-pub(crate) fn named(i: usize) -> u64
+pub(crate) fn named(rt: &(impl Env + Files), i: usize) -> u64
     ensures { result ≤ 1 }
 {
     let mut path = io::buffer();
-    let n = os::arg(i, &mut path);
-    if n == 0 {
-        texts::fault(texts::NO_NAME, &[i as u64]);
-        return 0;
+    match rt.arg(i, &mut path) {
+        Err(_) => unnamed(i),
+        Ok(0) => unnamed(i),
+        Ok(n) => opened(rt, &path[..n]),
     }
-    opened(&path[..n])
 }

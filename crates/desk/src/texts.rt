@@ -1,6 +1,8 @@
 // The texts of the program, by their places in one literal, which bars part; `pictures` has what their pictures mean. One
 // literal and not many: each would cost the check a quarter of a second.
-use libc::{STDERR_FILENO, STDOUT_FILENO};
+const STDOUT_FILENO: i32 = 1;
+
+const STDERR_FILENO: i32 = 2;
 
 // The column in which verdicts start, and the blanks that stand before one at least.
 const COLUMN: usize = 40;

@@ -1,6 +1,8 @@
 // An edit on flat numbers: one subarea of a list replaced, and the rows that stand on the list altered to match.
 // Units: rain in thousandths of an inch, inflow volumes and storage in thousandths of a cubic foot, outflow in thousandths
 // of a cfs; half is half the step, in seconds; a place counts the subareas from 1.
+#![tactic(auto)]
+
 ghost use Rattle.std.specs.Prelude.{◌≡◌, ◌/◌, ◌≤◌};
 ghost use Rattle.rows.specs.Routing.{total};
 ghost use Rattle.checks.specs.Site.{site_now, rows_now, site, found, left};
@@ -34,10 +36,10 @@ fn settle(
     storage: &mut [u64],
     classes: curve::Classes,
 ) -> EditAnswer
-    requires swap_fit { SwapFit step rain.now pond.now old own (rows_now inflow outflow storage) }
+    requires swap_fit { SwapFit step rain.now pond.now old own (rows_now inflow.old outflow.old storage.old) }
     requires all_bound { (all ≤ 1000000000000000000) × (total (new_by step rain.now old own inflow.old) ≤ all) }
-    ensures value { result ≡ settled_from (step / 2) classes pond.now (found inflow outflow storage) (new_by step rain.now old own inflow.old) }
-    ensures storage_value { left inflow outflow storage ≡ settled_rows_from (step / 2) pond.now (found inflow outflow storage) (new_by step rain.now old own inflow.old) }
+    ensures value { result ≡ settled_from (step / 2) classes pond.now (found inflow.old outflow.old storage.old) (new_by step rain.now old own inflow.old) }
+    ensures storage_value { left inflow.new outflow.new storage.new ≡ settled_rows_from (step / 2) pond.now (found inflow.old outflow.old storage.old) (new_by step rain.now old own inflow.old) }
 {
     let a = alter::first_swapped(old, own, step, rain, inflow);
     let state = rows::state_before(outflow, storage, a);
@@ -66,9 +68,9 @@ fn work(
     place: u64,
     fresh: &[u64],
 ) -> EditAnswer
-    requires { EditOk (site_now setup rain subareas pond) (rows_now inflow outflow storage) place fresh.now }
-    ensures value { result ≡ refitted (site setup rain subareas pond) (found inflow outflow storage) place fresh.now }
-    ensures storage_value { left inflow outflow storage ≡ refitted_rows (site setup rain subareas pond) (found inflow outflow storage) place fresh.now }
+    requires { EditOk (site_now setup rain.now subareas.now pond.now) (rows_now inflow.old outflow.old storage.old) place fresh.now }
+    ensures value { result ≡ refitted (site setup rain.now subareas.now pond.now) (found inflow.old outflow.old storage.old) place fresh.now }
+    ensures storage_value { left inflow.new outflow.new storage.new ≡ refitted_rows (site setup rain.now subareas.now pond.now) (found inflow.old outflow.old storage.old) place fresh.now }
 {
     let a = subarea::WIDTH * (place as usize - 1);
     let e = a + subarea::WIDTH;
@@ -105,10 +107,10 @@ pub fn run(
     place: u64,
     fresh: &[u64; subarea::WIDTH],
 ) -> EditAnswer
-    ensures value { result ≡ edit_answer (site setup rain subareas pond) (found inflow outflow storage) place fresh.now }
-    ensures storage_value { left inflow outflow storage ≡ edit_rows (site setup rain subareas pond) (found inflow outflow storage) place fresh.now }
-    ensures result_value { edit_refusal_in result ≡ edit_refusal (site setup rain subareas pond) (found inflow outflow storage) place fresh.now }
-    ensures result_value_2 { edit_values_in result ≡ edit_values (site setup rain subareas pond) (found inflow outflow storage) place fresh.now }
+    ensures value { result ≡ edit_answer (site setup rain.now subareas.now pond.now) (found inflow.old outflow.old storage.old) place fresh.now }
+    ensures storage_value { left inflow.new outflow.new storage.new ≡ edit_rows (site setup rain.now subareas.now pond.now) (found inflow.old outflow.old storage.old) place fresh.now }
+    ensures result_value { edit_refusal_in result ≡ edit_refusal (site setup rain.now subareas.now pond.now) (found inflow.old outflow.old storage.old) place fresh.now }
+    ensures result_value_2 { edit_values_in result ≡ edit_values (site setup rain.now subareas.now pond.now) (found inflow.old outflow.old storage.old) place fresh.now }
 {
     let v = alter::order::edit_checks(
         setup, rain, subareas, pond, inflow, outflow, storage, place, fresh,

@@ -1,3 +1,4 @@
+#![tactic(auto)]
 // Both engines of the inflow rows beside each other: the first, `inflow`, and the textbook's, `textbook`.
 ghost use Rattle.std.specs.Prelude.{◌≡◌};
 ghost use Rattle.checks.specs.Site.{basin, found};
@@ -10,7 +11,7 @@ use refusals::Refusal;
 use subarea::Setup;
 
 // What each engine answers, and the first row, from 1, in which their lists differ, or 0.
-#[derive(Drop)]
+#[derive(Clone, Copy)]
 pub struct Verdict {
     pub fast: Refusal,
     pub slow: Refusal,
@@ -54,9 +55,9 @@ pub fn compare(
     outflow: &[u64],
     storage: &[u64],
 ) -> Verdict
-    ensures value { result ≡ verdict_of (basin setup rain subareas) (found fast outflow storage) (found slow outflow storage) }
-    ensures fast_after { fast.new ≡ inflow_after (basin setup rain subareas) (found fast outflow storage) }
-    ensures slow_after { slow.new ≡ textbook_after (basin setup rain subareas) (found slow outflow storage) }
+    ensures value { result ≡ verdict_of (basin setup rain.now subareas.now) (found fast.old outflow.now storage.now) (found slow.old outflow.now storage.now) }
+    ensures fast_after { fast.new ≡ inflow_after (basin setup rain.now subareas.now) (found fast.old outflow.now storage.now) }
+    ensures slow_after { slow.new ≡ textbook_after (basin setup rain.now subareas.now) (found slow.old outflow.now storage.now) }
 {
     let first = inflow::run(setup, rain, subareas, fast, outflow, storage);
     let second = textbook::run(setup, rain, subareas, slow, outflow, storage);

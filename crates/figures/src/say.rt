@@ -1,7 +1,8 @@
 // Printing, on standard output.
 use crate::phrases;
 use guarded::NONE;
-use libc::STDOUT_FILENO;
+
+const STDOUT_FILENO: i32 = 1;
 
 pub(crate) fn bytes(s: &[u8]) {
     io::write_all(STDOUT_FILENO, s);

@@ -9,7 +9,7 @@ use laws::both;
 // figure differs in the second.
 const HALF: usize = 4096;
 
-#[derive(Drop)]
+#[derive(Clone, Copy)]
 pub(crate) struct Tally {
     rows: u64,
     right: u64,

@@ -4,7 +4,7 @@ use guarded::NONE;
 
 // A row that was not run has no engine verdict; one with no printed figure has no printed one. An
 // unreadable row counts as run and not right.
-#[derive(Drop)]
+#[derive(Clone, Copy)]
 pub(crate) struct Verdict {
     pub(crate) run: bool,
     pub(crate) right: bool,

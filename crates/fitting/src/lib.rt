@@ -1,5 +1,7 @@
 // The rows as an edit finds them, held against the old record's parts for refusal 16; and refusal 14 looked for with their new
 // inflow. Half is half the step, in seconds.
+#![tactic(auto)]
+
 pub mod over;
 
 ghost use Rattle.std.specs.Prelude.{◌≡◌, ℕ, ◌+◌, ◌≤◌, length};

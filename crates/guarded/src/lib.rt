@@ -1,4 +1,6 @@
 // The engine's functions by a letter, behind their limits: NONE where the numbers are out of them.
+#![tactic(auto)]
+
 mod bursts;
 mod ponds;
 mod studies;
@@ -13,7 +15,7 @@ const MOST_SEGMENT_TIME: u64 = 5777933;
 const GREATEST_TC: u64 = travel::MOST_SEGMENTS as u64 * MOST_SEGMENT_TIME;
 
 // What a function gives: up to four figures, NONE for each that it does not have.
-#[derive(Drop)]
+#[derive(Clone, Copy)]
 pub struct Four {
     pub a: u64,
     pub b: u64,

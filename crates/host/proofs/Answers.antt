@@ -26,7 +26,7 @@ bt_interface_one κs a x y s t p q = same p q
 
 -- what a call of `bt_study` leaves in the rows and in its array
 abbrev pub study_left : (κs : Lfts 7) → AtExit (ended_of 7 bt-study-kinds.ps bt-study-kinds.r) κs → Rows × List ℕ
-study_left κs (step, (first, (rule, (rain, (subareas, (pond, (inflow, (outflow, (storage, (answer, _)))))))))) = (rows_now inflow outflow storage, answer.now)
+study_left κs (step, (first, (rule, (rain, (subareas, (pond, (inflow, (outflow, (storage, (answer, _)))))))))) = (rows_now inflow.now outflow.now storage.now, answer.now)
 
 pub bt_study_one : OneAnswerAnd bt-study-kinds.ps bt-study-kinds.r study_left bt-study-reads.Post
 bt_study_one κs a x y s t p q = (same p.0 q.0, λ i. (same p.1.1 q.1.1 i, same p.1.0 q.1.0 i))
@@ -34,7 +34,7 @@ bt_study_one κs a x y s t p q = (same p.0 q.0, λ i. (same p.1.1 q.1.1 i, same 
 -- the same of `bt_edit`, with its changes
 abbrev pub edit_left : (κs : Lfts 9) → AtExit (ended_of 9 bt-edit-kinds.ps bt-edit-kinds.r) κs → Rows × (List ℕ × List ℤ)
 edit_left κs (step, (first, (rule, (rain, (subareas, (pond, (inflow, (outflow, (storage, (place, (fresh, (answer, (changes, _))))))))))))) =
-    (rows_now inflow outflow storage, (answer.now, changes.now))
+    (rows_now inflow.now outflow.now storage.now, (answer.now, changes.now))
 
 pub bt_edit_one : OneAnswerAnd bt-edit-kinds.ps bt-edit-kinds.r edit_left bt-edit-reads.Post
 bt_edit_one κs a x y s t p q = (same p.0 q.0, λ i. (same p.1.1.1 q.1.1.1 i, (same p.1.0 q.1.0 i, same p.1.1.0 q.1.1.0 i)))

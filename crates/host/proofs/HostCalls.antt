@@ -53,10 +53,10 @@ module _ (x : Site) (l : Rows) (k : ℕ) (r : List ℕ) {y z : Site} {m : Rows} 
 
 -- what a call of `bt_study` is lent
 abbrev study_site : (κs : Lfts 7) → Dens κs bt-study-kinds.ps → Site
-study_site κs (step, (first, (rule, (rain, (subareas, (pond, _)))))) = site_now (setup_of step first rule) rain subareas pond
+study_site κs (step, (first, (rule, (rain, (subareas, (pond, _)))))) = site_now (setup_of step first rule) rain.now subareas.now pond.now
 
 abbrev study_lent : (κs : Lfts 7) → Dens κs bt-study-kinds.ps → Rows
-study_lent κs (step, (first, (rule, (rain, (subareas, (pond, (inflow, (outflow, (storage, _))))))))) = rows_now inflow outflow storage
+study_lent κs (step, (first, (rule, (rain, (subareas, (pond, (inflow, (outflow, (storage, _))))))))) = rows_now inflow.now outflow.now storage.now
 
 -- the same of `bt_edit`
 pub record EditCall : Type 0 where
@@ -67,7 +67,7 @@ pub record EditCall : Type 0 where
 
 abbrev edit_call : (κs : Lfts 9) → Dens κs bt-edit-kinds.ps → EditCall
 edit_call κs (step, (first, (rule, (rain, (subareas, (pond, (inflow, (outflow, (storage, (place, (fresh, _))))))))))) =
-    record { site = site_now (setup_of step first rule) rain subareas pond; rows = rows_now inflow outflow storage; place = place; fresh = fresh.now }
+    record { site = site_now (setup_of step first rule) rain.now subareas.now pond.now; rows = rows_now inflow.now outflow.now storage.now; place = place; fresh = fresh.now }
 
 -- an edit of rows that stand, at a listed place and with a whole record; and a study that is lent the altered site and the same rows
 pub record EditAndStudy (e : EditCall) (site : Site) (rows : Rows) : Type 0 where
@@ -92,7 +92,7 @@ abbrev records_studied : (κs : Lfts (bt-study-records.signature).lifetimes) →
 records_studied κs (step, (first, (rule, (rain, (list, (pond, _)))))) = records_site (setup_of step first rule) rain.now list.now pond.now
 
 abbrev records_lent : (κs : Lfts (bt-study-records.signature).lifetimes) → Args bt-study-records.signature κs → Rows
-records_lent κs (step, (first, (rule, (rain, (list, (pond, (inflow, (outflow, (storage, _))))))))) = rows_now inflow outflow storage
+records_lent κs (step, (first, (rule, (rain, (list, (pond, (inflow, (outflow, (storage, _))))))))) = rows_now inflow.now outflow.now storage.now
 
 pub record RecordsCall : Type 0 where
   pub setup : Setup
@@ -105,7 +105,7 @@ pub record RecordsCall : Type 0 where
 
 abbrev records_call : (κs : Lfts (bt-edit-records.signature).lifetimes) → Args bt-edit-records.signature κs → RecordsCall
 records_call κs (step, (first, (rule, (rain, (list, (pond, (inflow, (outflow, (storage, (place, (fresh, _))))))))))) =
-    record { setup = setup_of step first rule; rain = rain.now; list = list.now; pond = pond.now; rows = rows_now inflow outflow storage; place = place; fresh = fresh.now }
+    record { setup = setup_of step first rule; rain = rain.now; list = list.now; pond = pond.now; rows = rows_now inflow.now outflow.now storage.now; place = place; fresh = fresh.now }
 
 -- an edit of rows that stand, at a listed place and with the numbers of record n; and a study that is lent the list with n in that place and the same rows
 pub record RecordsEditAndStudy (e : RecordsCall) (n : Subarea) (site : Site) (rows : Rows) : Type 0 where

@@ -1,10 +1,10 @@
 pub mod Stores
 pub mod Fields
 pub mod Handing
+mod Used
 pub mod Refused
 pub mod StudyPromise
 pub mod EditPromise
-pub mod Walking
 pub mod OneSaid
 pub mod RecordAnswers
 pub mod Answers

@@ -22,7 +22,7 @@ use Rattle.host.specs.contracts.records.bt_edit_records as bt-edit-records
 
 -- what a study leaves in what it is lent, and what it says of that
 abbrev pub studied : (κs : Lfts (bt-study-records.signature).lifetimes) → AtExit bt-study-records.ended κs → Rows × List ℕ
-studied κs (step, (first, (rule, (rain, (list, (pond, (inflow, (outflow, (storage, (answer, _)))))))))) = (rows_now inflow outflow storage, answer.now)
+studied κs (step, (first, (rule, (rain, (list, (pond, (inflow, (outflow, (storage, (answer, _)))))))))) = (rows_now inflow.now outflow.now storage.now, answer.now)
 
 abbrev pub StudySays : (κs : Lfts (bt-study-records.signature).lifetimes) → Args bt-study-records.signature κs → ℕ → AtExit bt-study-records.ended κs → Type 0
 StudySays κs (step, (first, (rule, (rain, (list, (pond, (inflow, (outflow, (storage, _))))))))) r s =
@@ -32,7 +32,7 @@ StudySays κs (step, (first, (rule, (rain, (list, (pond, (inflow, (outflow, (sto
 -- the same of an edit
 abbrev pub edited : (κs : Lfts (bt-edit-records.signature).lifetimes) → AtExit bt-edit-records.ended κs → Rows × (List ℕ × List ℤ)
 edited κs (step, (first, (rule, (rain, (list, (pond, (inflow, (outflow, (storage, (place, (fresh, (answer, (changes, _))))))))))))) =
-    (rows_now inflow outflow storage, (answer.now, changes.now))
+    (rows_now inflow.now outflow.now storage.now, (answer.now, changes.now))
 
 abbrev pub EditSays : (κs : Lfts (bt-edit-records.signature).lifetimes) → Args bt-edit-records.signature κs → ℕ → AtExit bt-edit-records.ended κs → Type 0
 EditSays κs (step, (first, (rule, (rain, (list, (pond, (inflow, (outflow, (storage, (place, (fresh, _))))))))))) r s =

@@ -3,7 +3,7 @@ use Rattle.std.specs.Prelude.{List, [], ◌∷◌, ◌++◌, ℕ, zero, suc, ◌
 use Rattle.curve.specs.CurveNumbers.{most_patches}
 use Rattle.travel.specs.TravelTime.{most_segments}
 use Rattle.subarea.specs.declared.Setup.{Setup}
-use Rattle.checks.specs.Site.{Site, Lent}
+use Rattle.checks.specs.Site.{Site}
 use Rattle.host.specs.declared.records.Patch.{Patch}
 use Rattle.host.specs.declared.records.Segment.{Segment}
 use Rattle.host.specs.declared.records.Subarea.{Subarea}
@@ -44,5 +44,5 @@ abbrev pub put_in : List Subarea → ℕ → Subarea → List Subarea
 put_in ss k n = take (k - 1) ss ++ (n ∷ drop k ss)
 
 -- a site whose subareas are such a list
-abbrev pub list_site : Setup → Lent → List ℕ → Lent → Site
-list_site g rain s p = record { setup = g; rain = rain.entry.now; subareas = s; pond = p.entry.now }
+abbrev pub list_site : Setup → List ℕ → List ℕ → List ℕ → Site
+list_site g rain s p = record { setup = g; rain = rain; subareas = s; pond = p }

@@ -105,7 +105,7 @@ fn put(flat: Flat, i: usize, own: Subarea) -> Flat
     Flat { numbers }
 }
 
-// As many records as a study takes, or all. Proved by hand: the one loop over the lent records.
+// As many records as a study takes, or all.
 pub(crate) fn gather(list: &[Subarea]) -> Flat
     ensures { result ≡ gathered list.now }
 {

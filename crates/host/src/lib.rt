@@ -1,4 +1,7 @@
-// The interface for hosts in other languages: only whole numbers and pointers cross. include/bridletenon.h has it for C.
+// The interface for hosts in other languages: only whole numbers and pointers cross. host_c exports it under the same names, and
+// include/bridletenon.h has it for C.
+#![tactic(auto)]
+
 mod gathering;
 pub mod records;
 
@@ -23,16 +26,14 @@ use subarea::Setup;
 const INTERFACE: u64 = 5;
 
 // The number of the interface that this engine was built with.
-#[unsafe(no_mangle)]
-pub extern "C" fn bt_interface() -> u64
+pub fn bt_interface() -> u64
     ensures { result ≡ interface }
 {
     INTERFACE
 }
 
 // A study. The answer is written whole in either case; a refused study leaves the three row lists as they were.
-#[unsafe(no_mangle)]
-pub extern "C" fn bt_study(
+pub fn bt_study(
     step: u64,
     first: u64,
     rule: u64,
@@ -44,9 +45,9 @@ pub extern "C" fn bt_study(
     storage: &mut [u64],
     answer: &mut [u64; 12],
 ) -> u64
-    ensures value { result ≡ (study_refusal_in (study_answer (site (setup_of step first rule) rain subareas pond) (found inflow outflow storage))).number }
-    ensures answer_after { answer.new ≡ study_numbers_of (study_answer (site (setup_of step first rule) rain subareas pond) (found inflow outflow storage)) }
-    ensures storage_value { left inflow outflow storage ≡ study_rows (site (setup_of step first rule) rain subareas pond) (found inflow outflow storage) }
+    ensures value { result ≡ (study_refusal_in (study_answer (site (setup_of step first rule) rain.now subareas.now pond.now) (found inflow.old outflow.old storage.old))).number }
+    ensures answer_after { answer.new ≡ study_numbers_of (study_answer (site (setup_of step first rule) rain.now subareas.now pond.now) (found inflow.old outflow.old storage.old)) }
+    ensures storage_value { left inflow.new outflow.new storage.new ≡ study_rows (site (setup_of step first rule) rain.now subareas.now pond.now) (found inflow.old outflow.old storage.old) }
 {
     let setup = Setup { step, first, rule };
     let own = study::run(setup, rain, subareas, pond, inflow, outflow, storage);
@@ -55,8 +56,7 @@ pub extern "C" fn bt_study(
 
 // An edit: one subarea replaced. The answer and the changes are written whole in either case; a refused edit leaves the three
 // row lists as they were, and a done one the rows before the first changed row.
-#[unsafe(no_mangle)]
-pub extern "C" fn bt_edit(
+pub fn bt_edit(
     step: u64,
     first: u64,
     rule: u64,
@@ -71,10 +71,10 @@ pub extern "C" fn bt_edit(
     answer: &mut [u64; 13],
     changes: &mut [i64; 2],
 ) -> u64
-    ensures value { result ≡ (edit_refusal_in (edit_answer (site (setup_of step first rule) rain subareas pond) (found inflow outflow storage) place fresh.now)).number }
-    ensures answer_after { answer.new ≡ edit_numbers_of (edit_answer (site (setup_of step first rule) rain subareas pond) (found inflow outflow storage) place fresh.now) }
-    ensures changes_after { changes.new ≡ changes_of (edit_values_in (edit_answer (site (setup_of step first rule) rain subareas pond) (found inflow outflow storage) place fresh.now)) }
-    ensures storage_value { left inflow outflow storage ≡ edit_rows (site (setup_of step first rule) rain subareas pond) (found inflow outflow storage) place fresh.now }
+    ensures value { result ≡ (edit_refusal_in (edit_answer (site (setup_of step first rule) rain.now subareas.now pond.now) (found inflow.old outflow.old storage.old) place fresh.now)).number }
+    ensures answer_after { answer.new ≡ edit_numbers_of (edit_answer (site (setup_of step first rule) rain.now subareas.now pond.now) (found inflow.old outflow.old storage.old) place fresh.now) }
+    ensures changes_after { changes.new ≡ changes_of (edit_values_in (edit_answer (site (setup_of step first rule) rain.now subareas.now pond.now) (found inflow.old outflow.old storage.old) place fresh.now)) }
+    ensures storage_value { left inflow.new outflow.new storage.new ≡ edit_rows (site (setup_of step first rule) rain.now subareas.now pond.now) (found inflow.old outflow.old storage.old) place fresh.now }
 {
     let setup = Setup { step, first, rule };
     let own = edit::run(
@@ -84,8 +84,7 @@ pub extern "C" fn bt_edit(
 }
 
 // A row's mark. Both arrays are written whole in either case.
-#[unsafe(no_mangle)]
-pub extern "C" fn bt_mark(
+pub fn bt_mark(
     step: u64,
     first: u64,
     pond: &[u64],
@@ -96,9 +95,9 @@ pub extern "C" fn bt_mark(
     answer: &mut [u64; 3],
     values: &mut [f64; 5],
 ) -> u64
-    ensures value { result ≡ (mark_refusal_in (mark_answer step first pond.now (found inflow outflow storage) row)).number }
-    ensures answer_after { answer.new ≡ mark_numbers_of (mark_answer step first pond.now (found inflow outflow storage) row) }
-    ensures values_after { values.new ≡ mark_values_in (mark_answer step first pond.now (found inflow outflow storage) row) }
+    ensures value { result ≡ (mark_refusal_in (mark_answer step first pond.now (found inflow.now outflow.now storage.now) row)).number }
+    ensures answer_after { answer.new ≡ mark_numbers_of (mark_answer step first pond.now (found inflow.now outflow.now storage.now) row) }
+    ensures values_after { values.new ≡ mark_values_in (mark_answer step first pond.now (found inflow.now outflow.now storage.now) row) }
 {
     let own = marks::mark_row(step, first, pond, inflow, outflow, storage, row);
     answers::put_mark(own, answer, values)
@@ -106,8 +105,7 @@ pub extern "C" fn bt_mark(
 
 // The inflow rows alone, as a study works them: no pond. The answer is written whole in either case; a refused call leaves the
 // inflow list as it was. Of the outflow and storage lists only the lengths are read.
-#[unsafe(no_mangle)]
-pub extern "C" fn bt_inflow(
+pub fn bt_inflow(
     step: u64,
     first: u64,
     rule: u64,
@@ -118,9 +116,9 @@ pub extern "C" fn bt_inflow(
     storage: &[u64],
     answer: &mut [u64; 2],
 ) -> u64
-    ensures value { result ≡ (inflow_refusal (basin (setup_of step first rule) rain subareas) (found inflow outflow storage)).number }
-    ensures answer_after { answer.new ≡ refusal_numbers (inflow_refusal (basin (setup_of step first rule) rain subareas) (found inflow outflow storage)) }
-    ensures inflow_after { inflow.new ≡ inflow_after (basin (setup_of step first rule) rain subareas) (found inflow outflow storage) }
+    ensures value { result ≡ (inflow_refusal (basin (setup_of step first rule) rain.now subareas.now) (found inflow.old outflow.now storage.now)).number }
+    ensures answer_after { answer.new ≡ refusal_numbers (inflow_refusal (basin (setup_of step first rule) rain.now subareas.now) (found inflow.old outflow.now storage.now)) }
+    ensures inflow_after { inflow.new ≡ inflow_after (basin (setup_of step first rule) rain.now subareas.now) (found inflow.old outflow.now storage.now) }
 {
     let setup = Setup { step, first, rule };
     let own = inflow::run(setup, rain, subareas, inflow, outflow, storage);
@@ -128,8 +126,7 @@ pub extern "C" fn bt_inflow(
 }
 
 // The same by the second engine, in the textbook's way.
-#[unsafe(no_mangle)]
-pub extern "C" fn bt_textbook(
+pub fn bt_textbook(
     step: u64,
     first: u64,
     rule: u64,
@@ -140,9 +137,9 @@ pub extern "C" fn bt_textbook(
     storage: &[u64],
     answer: &mut [u64; 2],
 ) -> u64
-    ensures value { result ≡ (textbook_refusal (basin (setup_of step first rule) rain subareas) (found inflow outflow storage)).number }
-    ensures answer_after { answer.new ≡ refusal_numbers (textbook_refusal (basin (setup_of step first rule) rain subareas) (found inflow outflow storage)) }
-    ensures inflow_after { inflow.new ≡ textbook_after (basin (setup_of step first rule) rain subareas) (found inflow outflow storage) }
+    ensures value { result ≡ (textbook_refusal (basin (setup_of step first rule) rain.now subareas.now) (found inflow.old outflow.now storage.now)).number }
+    ensures answer_after { answer.new ≡ refusal_numbers (textbook_refusal (basin (setup_of step first rule) rain.now subareas.now) (found inflow.old outflow.now storage.now)) }
+    ensures inflow_after { inflow.new ≡ textbook_after (basin (setup_of step first rule) rain.now subareas.now) (found inflow.old outflow.now storage.now) }
 {
     let setup = Setup { step, first, rule };
     let own = textbook::run(setup, rain, subareas, inflow, outflow, storage);

@@ -1,5 +1,4 @@
-// Thin entries over a lent list of records: the list is gathered into flat numbers, and the engine works on those. A slice of
-// structs is proved by a walk of the code: that of `gather` by hand, those of the entries here by tools/walks, and no more.
+// Thin entries over a lent list of records: the list is gathered into flat numbers, and the engine works on those.
 ghost use Rattle.std.specs.Prelude.{◌≡◌};
 ghost use Rattle.checks.specs.Site.{found, left};
 ghost use Rattle.study.specs.Study.{study_answer, study_rows, study_refusal_in};
@@ -17,7 +16,7 @@ use subarea::Setup;
 
 // A patch: area in hundredths of an acre.
 #[repr(C)]
-#[derive(Drop)]
+#[derive(Clone, Copy)]
 pub struct Patch {
     pub cover: u64,
     pub soil: u64,
@@ -26,7 +25,7 @@ pub struct Patch {
 
 // A segment: length in feet; what stands third, fourth and fifth is by its kind, as travel's definitions say.
 #[repr(C)]
-#[derive(Drop)]
+#[derive(Clone, Copy)]
 pub struct Segment {
     pub kind: u64,
     pub length: u64,
@@ -37,7 +36,7 @@ pub struct Segment {
 
 // A subarea's record, laid out as its numbers are in a flat list.
 #[repr(C)]
-#[derive(Drop)]
+#[derive(Clone, Copy)]
 pub struct Subarea {
     pub patch_count: u64,
     pub patches: [Patch; curve::MOST_PATCHES],
@@ -46,6 +45,7 @@ pub struct Subarea {
 }
 
 // How many numbers to hand on for n records: none for too many, so that the engine refuses them in its own order.
+#[tactic(auto, using(crate::proofs::Used::used_none, crate::proofs::Used::used_all))]
 fn used_by(n: usize) -> usize
     ensures { result ≡ used n }
 {
@@ -70,9 +70,9 @@ fn study_of(
     storage: &mut [u64],
     answer: &mut [u64; 12],
 ) -> u64
-    ensures value { result ≡ (study_refusal_in (study_answer (list_site (setup_of step first rule) rain (handed flat n) pond) (found inflow outflow storage))).number }
-    ensures answer_after { answer.new ≡ study_numbers_of (study_answer (list_site (setup_of step first rule) rain (handed flat n) pond) (found inflow outflow storage)) }
-    ensures storage_value { left inflow outflow storage ≡ study_rows (list_site (setup_of step first rule) rain (handed flat n) pond) (found inflow outflow storage) }
+    ensures value { result ≡ (study_refusal_in (study_answer (list_site (setup_of step first rule) rain.now (handed flat n) pond.now) (found inflow.old outflow.old storage.old))).number }
+    ensures answer_after { answer.new ≡ study_numbers_of (study_answer (list_site (setup_of step first rule) rain.now (handed flat n) pond.now) (found inflow.old outflow.old storage.old)) }
+    ensures storage_value { left inflow.new outflow.new storage.new ≡ study_rows (list_site (setup_of step first rule) rain.now (handed flat n) pond.now) (found inflow.old outflow.old storage.old) }
 {
     let numbers = flat.numbers;
     let e = used_by(n);
@@ -82,8 +82,7 @@ fn study_of(
 }
 
 // A study of a list of records: as `bt_study` of the list flattened.
-#[unsafe(no_mangle)]
-pub extern "C" fn bt_study_records(
+pub fn bt_study_records(
     step: u64,
     first: u64,
     rule: u64,
@@ -95,9 +94,9 @@ pub extern "C" fn bt_study_records(
     storage: &mut [u64],
     answer: &mut [u64; 12],
 ) -> u64
-    ensures value { result ≡ (study_refusal_in (study_answer (list_site (setup_of step first rule) rain (flat_of list.now) pond) (found inflow outflow storage))).number }
-    ensures answer_after { answer.new ≡ study_numbers_of (study_answer (list_site (setup_of step first rule) rain (flat_of list.now) pond) (found inflow outflow storage)) }
-    ensures storage_value { left inflow outflow storage ≡ study_rows (list_site (setup_of step first rule) rain (flat_of list.now) pond) (found inflow outflow storage) }
+    ensures value { result ≡ (study_refusal_in (study_answer (list_site (setup_of step first rule) rain.now (flat_of list.now) pond.now) (found inflow.old outflow.old storage.old))).number }
+    ensures answer_after { answer.new ≡ study_numbers_of (study_answer (list_site (setup_of step first rule) rain.now (flat_of list.now) pond.now) (found inflow.old outflow.old storage.old)) }
+    ensures storage_value { left inflow.new outflow.new storage.new ≡ study_rows (list_site (setup_of step first rule) rain.now (flat_of list.now) pond.now) (found inflow.old outflow.old storage.old) }
 {
     let flat = gathering::gather(list);
     study_of(
@@ -132,10 +131,10 @@ fn edit_of(
     answer: &mut [u64; 13],
     changes: &mut [i64; 2],
 ) -> u64
-    ensures value { result ≡ (edit_refusal_in (edit_answer (list_site (setup_of step first rule) rain (handed flat n) pond) (found inflow outflow storage) place fresh.now)).number }
-    ensures answer_after { answer.new ≡ edit_numbers_of (edit_answer (list_site (setup_of step first rule) rain (handed flat n) pond) (found inflow outflow storage) place fresh.now) }
-    ensures changes_after { changes.new ≡ changes_of (edit_values_in (edit_answer (list_site (setup_of step first rule) rain (handed flat n) pond) (found inflow outflow storage) place fresh.now)) }
-    ensures storage_value { left inflow outflow storage ≡ edit_rows (list_site (setup_of step first rule) rain (handed flat n) pond) (found inflow outflow storage) place fresh.now }
+    ensures value { result ≡ (edit_refusal_in (edit_answer (list_site (setup_of step first rule) rain.now (handed flat n) pond.now) (found inflow.old outflow.old storage.old) place fresh.now)).number }
+    ensures answer_after { answer.new ≡ edit_numbers_of (edit_answer (list_site (setup_of step first rule) rain.now (handed flat n) pond.now) (found inflow.old outflow.old storage.old) place fresh.now) }
+    ensures changes_after { changes.new ≡ changes_of (edit_values_in (edit_answer (list_site (setup_of step first rule) rain.now (handed flat n) pond.now) (found inflow.old outflow.old storage.old) place fresh.now)) }
+    ensures storage_value { left inflow.new outflow.new storage.new ≡ edit_rows (list_site (setup_of step first rule) rain.now (handed flat n) pond.now) (found inflow.old outflow.old storage.old) place fresh.now }
 {
     let numbers = flat.numbers;
     let e = used_by(n);
@@ -155,8 +154,7 @@ fn edit_of(
 }
 
 // An edit of a list of records, which is only read: as `bt_edit` of the list flattened.
-#[unsafe(no_mangle)]
-pub extern "C" fn bt_edit_records(
+pub fn bt_edit_records(
     step: u64,
     first: u64,
     rule: u64,
@@ -171,10 +169,10 @@ pub extern "C" fn bt_edit_records(
     answer: &mut [u64; 13],
     changes: &mut [i64; 2],
 ) -> u64
-    ensures value { result ≡ (edit_refusal_in (edit_answer (list_site (setup_of step first rule) rain (flat_of list.now) pond) (found inflow outflow storage) place fresh.now)).number }
-    ensures answer_after { answer.new ≡ edit_numbers_of (edit_answer (list_site (setup_of step first rule) rain (flat_of list.now) pond) (found inflow outflow storage) place fresh.now) }
-    ensures changes_after { changes.new ≡ changes_of (edit_values_in (edit_answer (list_site (setup_of step first rule) rain (flat_of list.now) pond) (found inflow outflow storage) place fresh.now)) }
-    ensures storage_value { left inflow outflow storage ≡ edit_rows (list_site (setup_of step first rule) rain (flat_of list.now) pond) (found inflow outflow storage) place fresh.now }
+    ensures value { result ≡ (edit_refusal_in (edit_answer (list_site (setup_of step first rule) rain.now (flat_of list.now) pond.now) (found inflow.old outflow.old storage.old) place fresh.now)).number }
+    ensures answer_after { answer.new ≡ edit_numbers_of (edit_answer (list_site (setup_of step first rule) rain.now (flat_of list.now) pond.now) (found inflow.old outflow.old storage.old) place fresh.now) }
+    ensures changes_after { changes.new ≡ changes_of (edit_values_in (edit_answer (list_site (setup_of step first rule) rain.now (flat_of list.now) pond.now) (found inflow.old outflow.old storage.old) place fresh.now)) }
+    ensures storage_value { left inflow.new outflow.new storage.new ≡ edit_rows (list_site (setup_of step first rule) rain.now (flat_of list.now) pond.now) (found inflow.old outflow.old storage.old) place fresh.now }
 {
     let flat = gathering::gather(list);
     edit_of(

@@ -1,3 +1,4 @@
+#![tactic(auto)]
 // Inflow rows: from a subarea's numbers and the rain to its parts of the rows' inflow volumes.
 // Units: time to peak and step in seconds, area in hundredths of an acre, rain in thousandths of an inch,
 // depths in millionths of an inch, volumes in thousandths of a cubic foot.

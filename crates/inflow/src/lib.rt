@@ -1,3 +1,4 @@
+#![tactic(auto)]
 // The inflow rows of a list of subareas. Rain in thousandths of an inch, inflow volumes in thousandths of a cubic foot.
 ghost use Rattle.std.specs.Prelude.{◌≡◌, true, ℕ, ◌≤◌, length};
 ghost use Rattle.laws.specs.Limits.{most_rows, most_area};
@@ -88,8 +89,8 @@ pub fn run(
     outflow: &[u64],
     storage: &[u64],
 ) -> Refusal
-    ensures value { result ≡ inflow_refusal (basin setup rain subareas) (found rows outflow storage) }
-    ensures rows_after { rows.new ≡ inflow_after (basin setup rain subareas) (found rows outflow storage) }
+    ensures value { result ≡ inflow_refusal (basin setup rain.now subareas.now) (found rows.old outflow.now storage.now) }
+    ensures rows_after { rows.new ≡ inflow_after (basin setup rain.now subareas.now) (found rows.old outflow.now storage.now) }
 {
     let v = checks::inflow_checks(setup, rain, subareas, rows, outflow, storage);
     if v.number == 0 {

@@ -1,8 +1,8 @@
 -- A flat list passes its test exactly where its records are whole, few enough and good. Assumes nothing.
-use mathlib.Core.Path.{◌≡◌, sym, ◌∙◌}
+use mathlib.Core.Path.{◌≡◌}
 use mathlib.Core.Bool.{Bool, true, ◌&&◌}
 use mathlib.Core.List.{List}
-use Prim.Native.Nat.{ℕ, ◌+◌, ◌*◌, ◌/◌, ◌%◌, ◌≤◌, ◌<◌}
+use Prim.Native.Nat.{ℕ, ◌%◌}
 use lib.ListN.{length}
 use lib.Dec.{eqb}
 use native.Mathlib.Nat.{div-add-mod}

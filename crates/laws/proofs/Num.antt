@@ -3,11 +3,11 @@ use mathlib.Core.Path.{◌≡◌, refl}
 use mathlib.Core.Bool.{Bool, true, false}
 use mathlib.Core.Logic.{◌⊎◌, inl, inr}
 use borrow.Author.Tests.{ltb-true, ltb-false, eqb-true, eqb-false}
-use Prim.Native.Nat.{ℕ, ◌+◌, ◌*◌, ◌/◌, ◌^◌, ◌≤◌, ◌<◌}
+use Prim.Native.Nat.{ℕ, ◌*◌, ◌/◌, ◌^◌, ◌≤◌, ◌<◌}
 use lib.Dec.{T, ltb, eqb, lit<}
 use mir.Val.{Fits}
 use mir.Syntax.{w64}
-use native.Mathlib.Nat.{mul-le-mul, lt_of_le_of_lt, mul-le-mul_left, mul-le-mul_right, div-le_of_le-mul, div-mul-le_self, le_of_mul-le-mul_right, le-div_iff_mul-le, le_trans}
+use native.Mathlib.Nat.{mul-le-mul, lt_of_le_of_lt, mul-le-mul_right, div-le_of_le-mul, div-mul-le_self, le_of_mul-le-mul_right, le-div_iff_mul-le, le_trans}
 use native.Mathlib.Omega.{arith}
 
 -- a number is below another or not

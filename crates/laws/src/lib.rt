@@ -1,3 +1,4 @@
+#![tactic(auto)]
 // What several crates share. The laws themselves stand in specs/ and proofs/; no engine code here.
 pub mod limits;
 

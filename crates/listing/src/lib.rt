@@ -1,6 +1,8 @@
 // The subareas' times to peak and sums of weights, listed once a study, and the inflow rows made of them: all in lent lists, or
 // block by block to look for refusal 14.
 // Units: rain in thousandths of an inch, inflow volumes in thousandths of a cubic foot.
+#![tactic(auto)]
+
 pub mod over;
 
 ghost use Rattle.std.specs.Prelude.{◌≡◌, ◌+◌, ◌≤◌, ◌<◌, length, get_or};

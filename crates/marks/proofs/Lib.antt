@@ -4,3 +4,4 @@ pub mod Ready
 pub mod Order
 pub mod Exact
 pub mod Answers
+mod Dry

@@ -1,6 +1,8 @@
 // A row's mark and point for a chart, as doubles. Each is a whole number below 2^53, so nothing is rounded.
 // Units: step in seconds, half is half of it; outflow in thousandths of a cfs, storage in thousandths of a cubic foot, stage in
 // thousandths of a ft; rows count from 1.
+#![tactic(auto)]
+
 ghost use Rattle.std.specs.Prelude.{◌≡◌, ◌+◌, ◌≤◌, ◌<◌, eqb, length};
 ghost use Rattle.laws.specs.Within.{within};
 ghost use Rattle.pond.specs.Needs.{PondOk};
@@ -14,7 +16,7 @@ ghost use Rattle.marks.specs.Needs.{most_exact, first_at_least, PointOk, MarkOk}
 use refusals::Refusal;
 
 // Where a row stands on a chart: its number, the seconds from the start, its outflow.
-#[derive(Drop)]
+#[derive(Clone, Copy)]
 pub struct Point {
     pub row: f64,
     pub seconds: f64,
@@ -22,21 +24,21 @@ pub struct Point {
 }
 
 // What stands there: nothing, an outflow, or the peak with its outflow and stage.
-#[derive(Drop)]
+#[derive(Clone, Copy)]
 pub enum Mark {
     Nothing,
     Outflow(f64),
     Peak(f64, f64),
 }
 
-#[derive(Drop)]
+#[derive(Clone, Copy)]
 pub struct Marked {
     pub mark: Mark,
     pub point: Point,
 }
 
 // Every input has one of the two.
-#[derive(Drop)]
+#[derive(Clone, Copy)]
 pub enum MarkAnswer {
     Refused(Refusal),
     Done(Marked),
@@ -80,6 +82,7 @@ fn is_peak(outflow: &[u64], i: usize) -> bool
 }
 
 // The first rule that fits: nothing without outflow, also in the peak row; the peak; an outflow. The row is i, from 0.
+#[tactic(auto, using(crate::proofs::Dry::mark_dry))]
 fn mark_of(pond: &[u64], half: u64, outflow: &[u64], i: usize, storage: u64) -> Mark
     requires { PondOk half pond.now × (RowOk half pond.now (at outflow.now i) storage × (i < length outflow.now)) }
     ensures { result ≡ mark_at half pond.now (peak_row outflow.now (length outflow.now)) (i + 1) (at outflow.now i) storage }
@@ -139,7 +142,7 @@ fn row_check(row: u64, m: usize) -> Refusal
 
 // Refusals 1, 2 and 4.
 fn mark_checks(step: u64, first: u64, inflow: &[u64], outflow: &[u64], storage: &[u64]) -> Refusal
-    ensures { result ≡ first_refusal (mark_lines step first (found inflow outflow storage)) }
+    ensures { result ≡ first_refusal (mark_lines step first (found inflow.now outflow.now storage.now)) }
 {
     checks::frame_checks(step, inflow, outflow, storage).or(checks::last_check(first, inflow.len()))
 }
@@ -154,7 +157,7 @@ fn mark_refusal(
     storage: &[u64],
     row: u64,
 ) -> Refusal
-    ensures { result ≡ mark_refusal step first pond.now (found inflow outflow storage) row }
+    ensures { result ≡ mark_refusal step first pond.now (found inflow.now outflow.now storage.now) row }
 {
     let lists = mark_checks(step, first, inflow, outflow, storage);
     if lists.number != 0 {
@@ -179,10 +182,10 @@ pub fn mark_row(
     storage: &[u64],
     row: u64,
 ) -> MarkAnswer
-    ensures value { result ≡ mark_answer step first pond.now (found inflow outflow storage) row }
-    ensures result_value { mark_refusal_in result ≡ mark_refusal step first pond.now (found inflow outflow storage) row }
-    ensures result_value_2 { mark_kind_in result ≡ mark_kind step first pond.now (found inflow outflow storage) row }
-    ensures result_value_3 { mark_values_in result ≡ mark_values step first pond.now (found inflow outflow storage) row }
+    ensures value { result ≡ mark_answer step first pond.now (found inflow.now outflow.now storage.now) row }
+    ensures result_value { mark_refusal_in result ≡ mark_refusal step first pond.now (found inflow.now outflow.now storage.now) row }
+    ensures result_value_2 { mark_kind_in result ≡ mark_kind step first pond.now (found inflow.now outflow.now storage.now) row }
+    ensures result_value_3 { mark_values_in result ≡ mark_values step first pond.now (found inflow.now outflow.now storage.now) row }
 {
     let v = mark_refusal(step, first, pond, inflow, outflow, storage, row);
     if v.number != 0 {

@@ -1,6 +1,8 @@
 // Prints texts whose pictures stand for numbers. A picture is a column of #, as wide as the whole units, and behind it the
 // decimals (.0, .00, .000 or .0000) or the minutes and seconds (:00:00). A number that is wider than its column is printed
 // as wide as it is.
+#![tactic(auto)]
+
 mod numbers;
 mod text;
 

@@ -1,4 +1,6 @@
 // The pond's table, three numbers a row (stage, storage, discharge), and one pond step.
+#![tactic(auto)]
+
 ghost use Rattle.std.specs.Prelude.{◌≡◌, ◌≤◌, ◌<◌};
 ghost use Rattle.pond.specs.PondRows.{rows_in, stage, storage, discharge, sum_at, last_sum, last_discharge, lower, between, discharge_at, stage_at, arrived, settled, count_good, row_within, order_good, row_good, first_bad, held_good, first_short};
 ghost use Rattle.pond.specs.Needs.{HalfOk, TableOk, PondOk, BetweenOk, ArriveOk};
@@ -9,7 +11,7 @@ pub const ROW_WIDTH: usize = 3;
 pub const MOST_POND_ROWS: usize = 64;
 
 // What a row leaves in the pond: storage in thousandths of a cubic foot, outflow in thousandths of a cfs.
-#[derive(Drop)]
+#[derive(Clone, Copy)]
 pub struct State {
     pub storage: u64,
     pub outflow: u64,

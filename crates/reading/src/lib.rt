@@ -1,4 +1,6 @@
 // A study's file, read into the lists that the engine is lent. docs/SHEET.md has the format.
+#![tactic(auto)]
+
 pub mod faults;
 pub mod items;
 mod kinds;
@@ -14,7 +16,7 @@ use subarea::Setup;
 // What is wrong with a file, and in which line; 0 for nothing. Asked for there was item number k of its kind, in subarea
 // `of`: of patches, segments and pond rows, the number at place k of their list. Where there are too many, k is document 01's
 // limit, or 0 where the limit is told by other numbers of the file.
-#[derive(Drop)]
+#[derive(Clone, Copy)]
 pub struct Fault {
     pub fault: u64,
     pub line: u64,
@@ -24,7 +26,7 @@ pub struct Fault {
 }
 
 // A file's numbers: those that stand alone, and how many of each list are laid.
-#[derive(Drop)]
+#[derive(Clone, Copy)]
 pub struct Laid {
     pub setup: Setup,
     pub rows: usize,

@@ -12,7 +12,7 @@ use crate::numbers::{Reader, count, next};
 use laws::limits;
 
 // How many numbers of a list are laid, and where reading ended.
-#[derive(Drop)]
+#[derive(Clone, Copy)]
 pub(crate) struct Laid {
     pub(crate) used: usize,
     pub(crate) end: Reader,

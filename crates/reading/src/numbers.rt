@@ -5,7 +5,7 @@ ghost use Rattle.laws.specs.Places.{Within};
 use crate::faults::{ENDED, LEFT_OVER, NO_NUMBER, TOO_LARGE, TOO_MANY};
 
 // A word as it is read: its number so far, or what is wrong with it.
-#[derive(Drop)]
+#[derive(Clone, Copy)]
 struct Digits {
     value: u64,
     fault: u64,
@@ -13,7 +13,7 @@ struct Digits {
 
 // Where a reader stands. Without a fault: behind its last word, whose number is `value`. With one:
 // where the fault is, and what it asked for there, item number k of its kind, in subarea `of`.
-#[derive(Drop)]
+#[derive(Clone, Copy)]
 pub(crate) struct Reader {
     pub(crate) at: usize,
     pub(crate) value: u64,

@@ -1,9 +1,10 @@
+#![tactic(auto)]
 // Refusals in their order: a number and a place of document 01, and the first of several.
 ghost use Rattle.std.specs.Prelude.{◌≡◌};
 ghost use Rattle.refusals.specs.Refusals.{none, or_else, charge, first_of, first_at};
 
 // A refusal's number and place in document 01; both 0 for none.
-#[derive(Drop)]
+#[derive(Clone, Copy)]
 pub struct Refusal {
     pub number: u64,
     pub place: u64,

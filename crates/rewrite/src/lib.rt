@@ -1,6 +1,8 @@
 // What an edit that nothing refuses writes, and what it tells.
 // Units: rain in thousandths of an inch, inflow volumes and storage in thousandths of a cubic foot, outflow in thousandths
 // of a cfs; half is half the step, in seconds.
+#![tactic(auto)]
+
 ghost use Rattle.std.specs.Prelude.{◌≡◌, ◌/◌, ◌≤◌, drop};
 ghost use Rattle.rows.specs.Routing.{over_row, state_before};
 ghost use Rattle.checks.specs.Site.{rows_now, found, left};
@@ -65,11 +67,11 @@ pub fn finish(
     a: usize,
     classes: curve::Classes,
 ) -> Edited
-    requires swap_fit { SwapFit step rain.now pond.now old own (rows_now inflow outflow storage) }
+    requires swap_fit { SwapFit step rain.now pond.now old own (rows_now inflow.old outflow.old storage.old) }
     requires a_value { a ≡ first_changed inflow.old (new_by step rain.now old own inflow.old) }
     requires inflow_value { over_row (step / 2) pond.now (state_before outflow.old storage.old a) (drop a (new_by step rain.now old own inflow.old)) ≡ 0 }
-    ensures value { result ≡ edited_of (step / 2) classes pond.now (found inflow outflow storage) (rerouted (step / 2) pond.now (found inflow outflow storage) (new_by step rain.now old own inflow.old)) }
-    ensures storage_value { left inflow outflow storage ≡ rerouted (step / 2) pond.now (found inflow outflow storage) (new_by step rain.now old own inflow.old) }
+    ensures value { result ≡ edited_of (step / 2) classes pond.now (found inflow.old outflow.old storage.old) (rerouted (step / 2) pond.now (found inflow.old outflow.old storage.old) (new_by step rain.now old own inflow.old)) }
+    ensures storage_value { left inflow.new outflow.new storage.new ≡ rerouted (step / 2) pond.now (found inflow.old outflow.old storage.old) (new_by step rain.now old own inflow.old) }
 {
     let half = step / 2;
     let before = rows::figures_of(pond, half, inflow, outflow, storage);

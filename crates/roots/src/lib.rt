@@ -1,4 +1,6 @@
 // Whole roots, down: the largest T whose power, times a factor, is at most a bound.
+#![tactic(auto)]
+
 mod guess;
 pub mod power;
 pub mod square;

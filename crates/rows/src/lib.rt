@@ -1,6 +1,8 @@
 // Routing over lists of rows, and the figures of rows that stand in lists.
 // Units: inflow volumes and storage in thousandths of a cubic foot, outflow in thousandths of a cfs, stage in thousandths
 // of a ft; half is half the step, in seconds.
+#![tactic(auto)]
+
 ghost use Rattle.std.specs.Prelude.{◌≡◌, ◌++◌, ◌+◌, ◌-◌, ◌*◌, ◌≤◌, ◌<◌, max, length, take, drop, ltb};
 ghost use Rattle.laws.specs.Pick.{pick};
 ghost use Rattle.pond.specs.Needs.{PondOk, StateOk};
@@ -13,7 +15,7 @@ ghost use Rattle.rows.specs.Figures.{figures_of, stands_within, first_forged};
 use pond::State;
 
 // Of the rows so far: total released, peak outflow with the first row that has it (from 1), greatest row stage.
-#[derive(Drop)]
+#[derive(Clone, Copy)]
 pub struct Kept {
     pub released: u64,
     pub peak: u64,
@@ -23,7 +25,7 @@ pub struct Kept {
 
 // What a dry run keeps: the first row that went over (from 1; 0 for none), the figures of the rows before it, the state
 // after them.
-#[derive(Drop)]
+#[derive(Clone, Copy)]
 pub struct Dry {
     pub over: u64,
     pub kept: Kept,
@@ -32,7 +34,7 @@ pub struct Dry {
 
 // What a block of rows run dry leaves: the first of them that went over (from 1; 0 for none), the state after the rows that
 // pass, and the inflow of all of them.
-#[derive(Drop)]
+#[derive(Clone, Copy)]
 pub struct Tide {
     pub over: u64,
     pub last: State,
@@ -40,7 +42,7 @@ pub struct Tide {
 }
 
 // Figures of standing rows.
-#[derive(Drop)]
+#[derive(Clone, Copy)]
 pub struct RowFigures {
     pub inflow: u64,
     pub storage: u64,
@@ -49,7 +51,7 @@ pub struct RowFigures {
 
 // Of the rows so far, from which their figures are told at the end: total inflow, total released, peak outflow with the
 // first row that has it (from 1), greatest X.
-#[derive(Drop)]
+#[derive(Clone, Copy)]
 struct Tally {
     inflow: u64,
     released: u64,

@@ -1,3 +1,4 @@
+#![tactic(auto)]
 // Runoff depth of a cumulative rain, in thousandths of an inch, on a curve number, in tenths.
 ghost use Rattle.std.specs.Prelude.{◌≡◌, ◌≤◌};
 ghost use Rattle.curve.specs.Needs.{CurveOk};

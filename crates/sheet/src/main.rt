@@ -1,14 +1,21 @@
 // Reads a study's numbers from a file, runs it and prints its sheet. docs/SHEET.md has the format.
+#![tactic(auto)]
+
 mod blocks;
 mod faults;
 mod lists;
 mod texts;
 
 ghost use Rattle.std.specs.Prelude.{◌≤◌, length};
+ghost use Rattle.io.specs.Counts.{IsPrefixLen};
 ghost use Rattle.reading.specs.Bounds.{rows_room};
 ghost use Rattle.sheet.specs.Bounds.{AsMany, Told};
 
 use reading::room::{POND_ROOM, RAIN_ROOM, ROWS_ROOM, SUBAREAS_ROOM};
+use std::env::{Env, FillError};
+use std::fs;
+use std::io::Read;
+use std::rt::Files;
 use study::StudyAnswer;
 use subarea::Setup;
 
@@ -92,52 +99,69 @@ fn laid(name: &[u8], s: &[u8]) {
     );
 }
 
-// One byte more is asked for, which tells a file that ends from one that cannot be read or is too long.
-fn read(name: &[u8], fd: i32) {
-    let mut buf = io::large_buffer();
-    let n = io::read_full(fd, &mut buf);
-    let mut more = [0u8; 1];
-    let rest = libc::read(fd, &mut more);
-    if rest < 0 {
-        faults::whole(name, texts::UNREAD);
-        return;
+// Reads until the buffer is full, the file ends or a read fails, and gives how many bytes stand in front.
+fn read_full<F: Read>(file: &mut F, buf: &mut [u8]) -> usize
+    ensures { IsPrefixLen result buf.new }
+{
+    let mut done = 0;
+    while done < buf.len() {
+        match file.read(&mut buf[done..]) {
+            Ok(0) => break,
+            Ok(n) => done += n,
+            Err(_) => break,
+        }
     }
-    if rest > 0 {
-        faults::whole(name, texts::TOO_LONG);
-        return;
-    }
-    laid(name, &buf[..n]);
+    done
 }
 
-fn opened(name: &[u8]) {
-    let fd = os::open_read(name);
-    if fd < 0 {
-        faults::whole(name, texts::UNOPENED);
-        return;
+// One byte more is asked for, which tells a file that ends from one that cannot be read or is too long.
+fn read<F: Read + Drop>(name: &[u8], mut file: F) {
+    let mut buf = io::large_buffer();
+    let n = read_full(&mut file, &mut buf);
+    let mut more = [0u8; 1];
+    match file.read(&mut more) {
+        Err(_) => faults::whole(name, texts::UNREAD),
+        Ok(0) => laid(name, &buf[..n]),
+        Ok(_) => faults::whole(name, texts::TOO_LONG),
     }
-    read(name, fd);
-    libc::close(fd);
+}
+
+// A path is UTF-8 text.
+fn opened(rt: &impl Files, name: &[u8]) {
+    match std::str::from_utf8(name) {
+        Err(_) => faults::whole(name, texts::UNOPENED),
+        Ok(path) => match fs::open(rt, path) {
+            Err(_) => faults::whole(name, texts::UNOPENED),
+            Ok(file) => read(name, file),
+        },
+    }
 }
 
 // An argument that is empty or too long for a path has no bytes here.
-fn named() {
+fn named(rt: &(impl Env + Files)) {
     let mut path = io::buffer();
-    let n = os::arg(1, &mut path);
-    if n == 0 {
-        texts::fault(texts::USAGE, 0);
-        return;
+    match rt.arg(1, &mut path) {
+        Err(_) => texts::fault(texts::USAGE, 0),
+        Ok(0) => texts::fault(texts::USAGE, 0),
+        Ok(n) => opened(rt, &path[..n]),
     }
-    opened(&path[..n]);
+}
+
+// Is there an argument i? Argument 0 is the program's own name.
+fn is_given(rt: &impl Env, i: usize) -> bool {
+    match rt.arg(i, &mut []) {
+        Err(FillError::NotPresent) => false,
+        _ => true,
+    }
 }
 
 // Without an argument the site is the one that the program comes with.
-fn main() {
-    let n = os::arg_count();
-    if n > 2 {
+fn main(rt: HostRuntime) {
+    if is_given(&rt, 2) {
         texts::fault(texts::USAGE, 0);
-    } else if n == 2 {
-        named();
+    } else if is_given(&rt, 1) {
+        named(&rt);
     } else {
-        opened(b"site.txt");
+        opened(&rt, b"site.txt");
     }
 }

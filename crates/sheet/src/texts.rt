@@ -2,7 +2,9 @@
 // and `pictures` has what their pictures mean. Two literals and not many: each would cost the check a quarter of a second.
 ghost use Rattle.std.specs.Prelude.{◌≤◌};
 
-use libc::{STDERR_FILENO, STDOUT_FILENO};
+const STDOUT_FILENO: i32 = 1;
+
+const STDERR_FILENO: i32 = 2;
 
 pub(crate) const HEADING: u64 = 0;
 

@@ -14,5 +14,5 @@ all_classes_one κs a x y s t p q = same p q
 pub figures_with_one : OneAnswer figures-with-kinds.ps figures-with-kinds.r figures-with-reads.Post
 figures_with_one κs a x y s t p q = same p q
 
-pub run_one : OneAnswerAnd run-kinds.ps run-kinds.r {L = Rows} (λ κs s. rows_now s.1.1.1.1.0 s.1.1.1.1.1.0 s.1.1.1.1.1.1.0) run-reads.Post
+pub run_one : OneAnswerAnd run-kinds.ps run-kinds.r {L = Rows} (λ κs s. rows_now s.1.1.1.1.0.now s.1.1.1.1.1.0.now s.1.1.1.1.1.1.0.now) run-reads.Post
 run_one κs a x y s t p q = (same p.0 q.0, same p.1.0 q.1.0)

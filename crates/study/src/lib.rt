@@ -1,6 +1,8 @@
 // A study on flat numbers: every input ends with an answer.
 // Units: rain in thousandths of an inch, inflow volumes and storage in thousandths of a cubic foot, outflow in thousandths
 // of a cfs; half is half the step, in seconds.
+#![tactic(auto)]
+
 ghost use Rattle.std.specs.Prelude.{◌≡◌, length};
 ghost use Rattle.curve.specs.declared.Classes.{Classes};
 ghost use Rattle.pond.specs.PondRows.{empty};
@@ -22,7 +24,7 @@ use subarea::Setup;
 // The figures of a study: total inflow, total released and the last storage in thousandths of a cubic foot, peak outflow in
 // thousandths of a cfs with the first row that has it (from 1), greatest stage in thousandths of a ft, and the area in each
 // class in hundredths of an acre.
-#[derive(Drop)]
+#[derive(Clone, Copy)]
 pub struct Figures {
     pub inflow: u64,
     pub released: u64,
@@ -37,7 +39,7 @@ pub struct Figures {
 }
 
 // Every input has one of the two.
-#[derive(Drop)]
+#[derive(Clone, Copy)]
 pub enum StudyAnswer {
     Refused(Refusal),
     Done(Figures),
@@ -110,10 +112,10 @@ fn finish(
     outflow: &mut [u64],
     storage: &mut [u64],
 ) -> Figures
-    requires site_ok { SiteOk (site_now setup rain subareas pond) (rows_now inflow outflow storage) × Listed setup subareas.now peaks.now totals.now }
+    requires site_ok { SiteOk (site_now setup rain.now subareas.now pond.now) (rows_now inflow.old outflow.old storage.old) × Listed setup subareas.now peaks.now totals.now }
     requires inflow_value { over_row (half_of setup) pond.now empty (inflow_rows setup rain.now subareas.now (length inflow.old)) ≡ 0 }
-    ensures value { result ≡ study_figures (site setup rain subareas pond) (found inflow outflow storage) }
-    ensures storage_value { left inflow outflow storage ≡ routed (half_of setup) pond.now (inflow_of (site setup rain subareas pond) (found inflow outflow storage)) }
+    ensures value { result ≡ study_figures (site setup rain.now subareas.now pond.now) (found inflow.old outflow.old storage.old) }
+    ensures storage_value { left inflow.new outflow.new storage.new ≡ routed (half_of setup) pond.now (inflow_of (site setup rain.now subareas.now pond.now) (found inflow.old outflow.old storage.old)) }
 {
     listing::fill_rows(
         setup, rain, subareas, peaks, totals, inflow, outflow, storage,
@@ -133,9 +135,9 @@ fn work(
     outflow: &mut [u64],
     storage: &mut [u64],
 ) -> StudyAnswer
-    requires { SiteOk (site_now setup rain subareas pond) (rows_now inflow outflow storage) }
-    ensures value { result ≡ decided_answer (site setup rain subareas pond) (found inflow outflow storage) }
-    ensures storage_value { left inflow outflow storage ≡ decided_rows (site setup rain subareas pond) (found inflow outflow storage) }
+    requires { SiteOk (site_now setup rain.now subareas.now pond.now) (rows_now inflow.old outflow.old storage.old) }
+    ensures value { result ≡ decided_answer (site setup rain.now subareas.now pond.now) (found inflow.old outflow.old storage.old) }
+    ensures storage_value { left inflow.new outflow.new storage.new ≡ decided_rows (site setup rain.now subareas.now pond.now) (found inflow.old outflow.old storage.old) }
 {
     let mut peaks = [0u32; limits::MOST_SUBAREAS];
     let mut totals = [0u32; limits::MOST_SUBAREAS];
@@ -162,10 +164,10 @@ pub fn run(
     outflow: &mut [u64],
     storage: &mut [u64],
 ) -> StudyAnswer
-    ensures value { result ≡ study_answer (site setup rain subareas pond) (found inflow outflow storage) }
-    ensures storage_value { left inflow outflow storage ≡ study_rows (site setup rain subareas pond) (found inflow outflow storage) }
-    ensures result_value { study_refusal_in result ≡ study_refusal (site setup rain subareas pond) (found inflow outflow storage) }
-    ensures result_value_2 { study_values_in result ≡ study_values (site setup rain subareas pond) (found inflow outflow storage) }
+    ensures value { result ≡ study_answer (site setup rain.now subareas.now pond.now) (found inflow.old outflow.old storage.old) }
+    ensures storage_value { left inflow.new outflow.new storage.new ≡ study_rows (site setup rain.now subareas.now pond.now) (found inflow.old outflow.old storage.old) }
+    ensures result_value { study_refusal_in result ≡ study_refusal (site setup rain.now subareas.now pond.now) (found inflow.old outflow.old storage.old) }
+    ensures result_value_2 { study_values_in result ≡ study_values (site setup rain.now subareas.now pond.now) (found inflow.old outflow.old storage.old) }
 {
     let v = checks::study_checks(setup, rain, subareas, pond, inflow, outflow, storage);
     if v.number != 0 {

@@ -1,12 +1,14 @@
 // One record of the subareas, and the numbers of a run that it is read with. The engine has the record's layout here and in
 // specs/Records.antt only.
+#![tactic(auto)]
+
 ghost use Rattle.std.specs.Prelude.{◌≡◌, true, length};
 ghost use Rattle.curve.specs.CurveNumbers.{ground_of, classes_of};
 ghost use Rattle.subarea.specs.Records.{width, patches, time_of, peak_of, patches_pass, segments_pass};
 ghost use Rattle.subarea.specs.Needs.{RoutedOk};
 
 // The numbers of a run: the step in seconds, the first row's number and the sheet rule, travel::TR55 or travel::WINTR55.
-#[derive(Drop)]
+#[derive(Clone, Copy)]
 pub struct Setup {
     pub step: u64,
     pub first: u64,

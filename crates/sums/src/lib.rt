@@ -1,3 +1,4 @@
+#![tactic(auto)]
 // Sums of weights times depths, a hand of weights at a time: of a block of rows, its depths on the stack, or of as many rows
 // as a list of depths is lent for.
 // Units: time to peak and step in seconds, area in hundredths of an acre, rain in thousandths of an inch, depths in millionths
@@ -17,7 +18,7 @@ use hydrograph::HAND;
 pub const BLOCK: usize = 31;
 
 // A subarea's numbers: its curve number in tenths, its area, its time to peak, the sum of its weights.
-#[derive(Drop)]
+#[derive(Clone, Copy)]
 pub struct Numbers {
     pub tenths: u64,
     pub area: u64,
@@ -40,7 +41,7 @@ fn narrow(x: u64) -> u64
 }
 
 // A hand of weights as numbers of their own, which the loop over the sums keeps in registers.
-#[derive(Drop)]
+#[derive(Clone, Copy)]
 struct Eight {
     w0: u64,
     w1: u64,

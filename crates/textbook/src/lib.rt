@@ -1,3 +1,4 @@
+#![tactic(auto)]
 // The inflow rows as the textbook has them, a second engine beside `inflow`: the runoff added in each rain step times each
 // weight, laid into the rows, and the sums through a row rounded. It calls nothing of the first engine but runoff depth, a
 // weight and the volume of a depth.
@@ -150,8 +151,8 @@ pub fn run(
     outflow: &[u64],
     storage: &[u64],
 ) -> Refusal
-    ensures value { result ≡ textbook_refusal (basin setup rain subareas) (found rows outflow storage) }
-    ensures rows_after { rows.new ≡ textbook_after (basin setup rain subareas) (found rows outflow storage) }
+    ensures value { result ≡ textbook_refusal (basin setup rain.now subareas.now) (found rows.old outflow.now storage.now) }
+    ensures rows_after { rows.new ≡ textbook_after (basin setup rain.now subareas.now) (found rows.old outflow.now storage.now) }
 {
     let v = checks::inflow_checks(setup, rain, subareas, rows, outflow, storage);
     if v.number == 0 {

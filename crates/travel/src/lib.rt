@@ -1,4 +1,6 @@
 // Travel time: segment times, the time of concentration and the time to peak, in whole seconds.
+#![tactic(auto)]
+
 mod manning;
 
 ghost use Rattle.std.specs.Prelude.{◌≡◌, ◌<◌};

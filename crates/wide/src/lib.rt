@@ -1,5 +1,7 @@
 // Whole numbers of 384 bits: LIMBS limbs of 32 bits each, lowest first, each in a place of 64 bits, so that a product and a carry
 // fit one.
+#![tactic(auto)]
+
 ghost use Rattle.std.specs.Prelude.{◌≡◌, ◌*◌, ◌^◌, ◌<◌, leb};
 ghost use Rattle.wide.specs.Limbs.{value, Wide, Holds, TimesOk, PowerOk, OneOk, TwoOk, ThreeOk};
 

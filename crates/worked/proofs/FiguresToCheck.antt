@@ -1,14 +1,13 @@
 -- Every line holds: one statement, by computation. Assumes nothing.
 use mathlib.Core.Path.{◌≡◌, refl}
-use mathlib.Core.List.{List, map}
-use Prim.Native.Nat.{ℕ}
+use mathlib.Core.List.{map}
 use Rattle.laws.specs.Scan.{scan}
 use Rattle.laws.specs.Sum.{sum_to}
 use Rattle.curve.specs.CurveNumbers.{cover_table, cover_number, total_area, weighted, nearest, mean_tenths, composite_tenths}
 use Rattle.runoff.specs.RunoffDepth.{depth}
 use Rattle.roots.specs.Largest.{largest}
 use Rattle.travel.specs.TravelTime.{shallow, segment_time}
-use Rattle.hydrograph.specs.InflowRows.{shape, time, ratio, line_at, on_line, weight, volume_of}
+use Rattle.hydrograph.specs.InflowRows.{time, ratio, line_at, on_line, weight, volume_of}
 use Rattle.pond.specs.PondRows.{sum_at, lower, between, discharge_at, arrived, settled}
 use Rattle.rows.specs.Routing.{states, total}
 use Rattle.worked.specs.Lines.{Line, lines}

@@ -1,0 +1,6 @@
+-- `checks::table_check` meets its contract. Assumes nothing.
+use Rattle.refusals.proofs.Orders.{scanned}
+use Rattle.checks.proofs.table_check.Goals as goal
+
+pub returns : goal.returns
+returns c = search scanned

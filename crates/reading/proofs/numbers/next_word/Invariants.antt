@@ -1,0 +1,10 @@
+-- `reading::numbers::next_word` is safe and ends. The measure is what is left of the text.
+use Prim.Native.Nat.{◌-◌}
+use lib.ListN.{length}
+use Rattle.reading.proofs.numbers.next_word.Given as goal
+
+abbrev pub invariant-loop-i : goal.invariant-loop-i
+invariant-loop-i l = Unit
+
+abbrev pub decreases-loop-i : goal.decreases-loop-i
+decreases-loop-i l = length l.s - l.i

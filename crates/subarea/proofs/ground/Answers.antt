@@ -1,0 +1,28 @@
+-- `subarea::ground` meets its contract. Assumes nothing.
+use mathlib.Core.Path.{ap, ◌∙◌}
+use native.Mathlib.Omega.{arith}
+use Rattle.curve.specs.CurveNumbers.{ground_of, patch_width}
+use Prim.Native.Nat.{◌*◌}
+use Rattle.subarea.specs.Records.{patch_count, patches_from}
+use Rattle.subarea.proofs.Subareas.{part_is, patches_few, patches_fit}
+use Rattle.subarea.proofs.ground.Goals as goal
+
+pub bounds-own-0 : goal.bounds-own-0
+bounds-own-0 c = omega (arith, c.requires.0)
+
+pub overflow_mul-e : goal.overflow_mul-e
+overflow_mul-e c = omega (arith, (patches_few c.args.own.now c.requires.1).high)
+
+pub overflow_add-e : goal.overflow_add-e
+overflow_add-e c = omega (arith, (patches_few c.args.own.now c.requires.1).high)
+
+pub slice_bounds-composite-end : goal.slice_bounds-composite-end
+slice_bounds-composite-end c = omega (arith, (patches_few c.args.own.now c.requires.1).high, c.requires.0)
+
+pub composite-requires : goal.composite-requires
+composite-requires c =
+    rw (part_is patches_from (patch_width * patch_count c.args.own.now) c.args.own.now) (patches_fit c.args.own.now c.requires.1)
+
+pub returns : goal.returns
+returns c =
+    c.composite.ensures ∙ ap ground_of (part_is patches_from (patch_width * patch_count c.args.own.now) c.args.own.now)
