@@ -38,7 +38,8 @@ basin_now g rain s = record { setup = g; rain = rain; subareas = s; pond = [] }
 abbrev pub rows_now : List ℕ → List ℕ → List ℕ → Rows
 rows_now v o t = record { inflow = v; outflow = o; storage = t }
 
--- of an `ensures`: the site, a site with no pond, the rows as found (of what the lists hold at entry) and the rows as left (of what they hold at exit)
+-- of an `ensures`: the site, a site with no pond, the rows as found, from what the lists hold at entry, and the rows as left, from
+-- what they hold at exit
 abbrev pub site : Setup → List ℕ → List ℕ → List ℕ → Site
 site g rain s p = site_now g rain s p
 

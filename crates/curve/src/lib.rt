@@ -1,6 +1,7 @@
-#![tactic(auto)]
 // Curve numbers: the cover table, the classes, and the composite curve number of a subarea's patches, in tenths.
 // A list of patches is flat, three numbers a patch: cover code, soil group, area in hundredths of an acre.
+#![tactic(auto)]
+
 ghost use Rattle.std.specs.Prelude.{◌≡◌, ◌+◌, ◌*◌, ◌<◌, eqb};
 ghost use Rattle.laws.specs.Pick.{pick};
 ghost use Rattle.laws.specs.Scan.{scan};
@@ -81,6 +82,7 @@ pub fn cover_number(cover: u64, soil: u64) -> u64
 }
 
 // The class of a cover code, 0 for a number that is none.
+#[tactic(auto, using(crate::proofs::Class::is_none, crate::proofs::Class::is_surface, crate::proofs::Class::is_district, crate::proofs::Class::is_lot, crate::proofs::Class::is_rural, crate::proofs::Class::is_past))]
 fn class_of(cover: u64) -> u64
     ensures { result ≡ class_of cover }
 {

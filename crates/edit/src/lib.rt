@@ -16,7 +16,7 @@ use subarea::Setup;
 use sums::Numbers;
 
 // Every input has one of the two.
-#[derive(Drop)]
+#[derive(Clone, Copy)]
 pub enum EditAnswer {
     Refused(Refusal),
     Done(Edited),

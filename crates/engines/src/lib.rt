@@ -1,5 +1,6 @@
-#![tactic(auto)]
 // Both engines of the inflow rows beside each other: the first, `inflow`, and the textbook's, `textbook`.
+#![tactic(auto)]
+
 ghost use Rattle.std.specs.Prelude.{◌≡◌};
 ghost use Rattle.checks.specs.Site.{basin, found};
 ghost use Rattle.inflow.specs.Inflow.{inflow_after};

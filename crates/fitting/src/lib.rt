@@ -16,7 +16,7 @@ use sums::Numbers;
 
 // How far rows fit the old record: the first (from 0) that does not, or their number; and what the rows before it leave without
 // the old record's parts.
-#[derive(Drop)]
+#[derive(Clone, Copy)]
 pub struct Fit {
     pub bad: usize,
     pub left: u64,

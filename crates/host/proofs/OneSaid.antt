@@ -1,6 +1,5 @@
--- What it is for the promise of a function that is proved by a walk to allow one answer only, and one later content of what it is lent.
--- The checker makes no reading of such a promise, so this is over its clauses, in every model: two answers said together say that they
--- are the same. Assumes nothing.
+-- What it is for a promise to allow one answer only, and one later content of what it is lent, over its clauses in every model of the
+-- logic: two answers said together say that they are the same. Assumes nothing.
 use mathlib.Core.Path.{◌≡◌}
 use seplogic.Ra.Ura.{Ura}
 use base.Logic.{SProp, ent, sep, id⊢, via, fst∗, snd∗}

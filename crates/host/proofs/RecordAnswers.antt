@@ -11,7 +11,7 @@ use contract.Monad.{Fun, fact}
 use denote.Triple.Entry.{Args}
 use denote.Triple.Clauses.{AtExit}
 use contract.Lifetimes.{Lfts}
-use Rattle.laws.proofs.OneAnswer.{same}
+use Rattle.laws.proofs.OneAnswer.{OneAnswerAnd, same}
 use Rattle.checks.specs.Site.{Rows, rows_now}
 use Rattle.host.specs.Flattened.{flat_of}
 use Rattle.host.proofs.StudyPromise.{StudyIs}
@@ -19,6 +19,10 @@ use Rattle.host.proofs.EditPromise.{EditIs}
 use Rattle.host.proofs.OneSaid.{OneSaid, also, follows}
 use Rattle.host.specs.contracts.records.bt_study_records as bt-study-records
 use Rattle.host.specs.contracts.records.bt_edit_records as bt-edit-records
+use Rattle.host.proofs.records.bt_study_records.Kinds as bt-study-records-kinds
+use Rattle.host.proofs.records.bt_study_records.Reads as bt-study-records-reads
+use Rattle.host.proofs.records.bt_edit_records.Kinds as bt-edit-records-kinds
+use Rattle.host.proofs.records.bt_edit_records.Reads as bt-edit-records-reads
 
 -- what a study leaves in what it is lent, and what it says of that
 abbrev pub studied : (κs : Lfts (bt-study-records.signature).lifetimes) → AtExit bt-study-records.ended κs → Rows × List ℕ
@@ -57,3 +61,10 @@ pub bt_edit_records_one : OneSaid bt-edit-records.ended (λ M 𝓤 𝓛. bt-edit
 bt_edit_records_one M 𝓤 𝓛 mem run κs a g x y s t =
     follows 𝓤 (EditSays κs a x s) (EditSays κs a y t) _ (edit_said 𝓛 mem run κs a x s) (edit_said 𝓛 mem run κs a y t)
     (λ p q. (same p.0 q.0, λ i. (same p.1.1.1 q.1.1.1 i, (same p.1.0 q.1.0 i, same p.1.1.0 q.1.1.0 i))))
+
+-- the same over the checker's reading of each promise, as the laws of the other functions have it
+pub bt_study_records_one_answer : OneAnswerAnd bt-study-records-kinds.ps bt-study-records-kinds.r studied bt-study-records-reads.Post
+bt_study_records_one_answer κs a x y s t p q = (same p.0 q.0, λ i. (same p.1.1 q.1.1 i, same p.1.0 q.1.0 i))
+
+pub bt_edit_records_one_answer : OneAnswerAnd bt-edit-records-kinds.ps bt-edit-records-kinds.r edited bt-edit-records-reads.Post
+bt_edit_records_one_answer κs a x y s t p q = (same p.0 q.0, λ i. (same p.1.1.1 q.1.1.1 i, (same p.1.0 q.1.0 i, same p.1.1.0 q.1.1.0 i)))

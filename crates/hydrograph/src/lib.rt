@@ -1,7 +1,8 @@
-#![tactic(auto)]
 // Inflow rows: from a subarea's numbers and the rain to its parts of the rows' inflow volumes.
 // Units: time to peak and step in seconds, area in hundredths of an acre, rain in thousandths of an inch,
 // depths in millionths of an inch, volumes in thousandths of a cubic foot.
+#![tactic(auto)]
+
 ghost use Rattle.std.specs.Prelude.{◌≡◌, ℕ, ◌+◌, ◌*◌, ◌≤◌, ◌<◌, min, length, get_or};
 ghost use Rattle.laws.specs.Sum.{sum_to};
 ghost use Rattle.laws.specs.Listed.{rows_from};
@@ -129,7 +130,7 @@ fn line_from(peak: u64, t: u64, from: usize) -> usize
 
 // What a step adds to the value on a line, as quotient and rest by the line's length: `up` lengths and `more`, less `down`
 // lengths, so that a line that falls has no sign to mind.
-#[derive(Drop)]
+#[derive(Clone, Copy)]
 struct Pace {
     up: u64,
     down: u64,
@@ -166,7 +167,7 @@ fn pace_on(left: u64, length: u64, step: u64, y0: u64, y1: u64) -> Pace
 
 // A pen on the shape's lines: the time of the weight it gives and where its line ends, in tenths of a second; the weight and
 // what its division left over, of 1000 times the line's value times the line's length; and the line's pace.
-#[derive(Drop)]
+#[derive(Clone, Copy)]
 struct Pen {
     time: u64,
     end: u64,

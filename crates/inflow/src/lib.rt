@@ -1,5 +1,6 @@
-#![tactic(auto)]
 // The inflow rows of a list of subareas. Rain in thousandths of an inch, inflow volumes in thousandths of a cubic foot.
+#![tactic(auto)]
+
 ghost use Rattle.std.specs.Prelude.{◌≡◌, true, ℕ, ◌≤◌, length};
 ghost use Rattle.laws.specs.Limits.{most_rows, most_area};
 ghost use Rattle.laws.specs.Listed.{plus, rows_from};

@@ -1,5 +1,6 @@
-#![tactic(auto)]
 // What several crates share. The laws themselves stand in specs/ and proofs/; no engine code here.
+#![tactic(auto)]
+
 pub mod limits;
 
 ghost use Rattle.std.specs.Prelude.{◌≡◌, ◌&&◌, ℕ, min, length};

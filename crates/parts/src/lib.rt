@@ -1,7 +1,8 @@
-#![tactic(auto)]
 // Parts of rows: a block of rows at a time on the stack, or many in lists that are lent to be worked in.
 // Units: time to peak and step in seconds, area in hundredths of an acre, rain in thousandths of an inch,
 // depths in millionths of an inch, volumes in thousandths of a cubic foot.
+#![tactic(auto)]
+
 ghost use Rattle.std.specs.Prelude.{◌≡◌, ◌+◌, ◌-◌, ◌≤◌, length, eqb};
 ghost use Rattle.laws.specs.Limits.{most_rows};
 ghost use Rattle.laws.specs.Listed.{plus};

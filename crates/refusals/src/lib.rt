@@ -1,5 +1,6 @@
-#![tactic(auto)]
 // Refusals in their order: a number and a place of document 01, and the first of several.
+#![tactic(auto)]
+
 ghost use Rattle.std.specs.Prelude.{◌≡◌};
 ghost use Rattle.refusals.specs.Refusals.{none, or_else, charge, first_of, first_at};
 

@@ -16,7 +16,7 @@ use sums::Numbers;
 
 // The figures over the rows then standing, the first changed row (from 1; 0 if none), and the changes of peak outflow and
 // of total released, new less old.
-#[derive(Drop)]
+#[derive(Clone, Copy)]
 pub struct Edited {
     pub figures: Figures,
     pub changed: u64,

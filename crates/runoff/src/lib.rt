@@ -1,5 +1,6 @@
-#![tactic(auto)]
 // Runoff depth of a cumulative rain, in thousandths of an inch, on a curve number, in tenths.
+#![tactic(auto)]
+
 ghost use Rattle.std.specs.Prelude.{◌≡◌, ◌≤◌};
 ghost use Rattle.curve.specs.Needs.{CurveOk};
 ghost use Rattle.laws.specs.Limits.{most_rain};

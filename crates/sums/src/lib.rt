@@ -1,8 +1,9 @@
-#![tactic(auto)]
 // Sums of weights times depths, a hand of weights at a time: of a block of rows, its depths on the stack, or of as many rows
 // as a list of depths is lent for.
 // Units: time to peak and step in seconds, area in hundredths of an acre, rain in thousandths of an inch, depths in millionths
 // of an inch.
+#![tactic(auto)]
+
 pub mod depths;
 
 ghost use Rattle.std.specs.Prelude.{◌≡◌, ◌+◌, ◌-◌, ◌*◌, ◌≤◌, ◌<◌, length, get_or};

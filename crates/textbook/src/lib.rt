@@ -1,9 +1,10 @@
-#![tactic(auto)]
 // The inflow rows as the textbook has them, a second engine beside `inflow`: the runoff added in each rain step times each
 // weight, laid into the rows, and the sums through a row rounded. It calls nothing of the first engine but runoff depth, a
 // weight and the volume of a depth.
 // Units: time to peak and step in seconds, area in hundredths of an acre, rain in thousandths of an inch, runoff in millionths
 // of an inch, what is laid in millionths of an inch times a weight, inflow volumes in thousandths of a cubic foot.
+#![tactic(auto)]
+
 ghost use Rattle.std.specs.Prelude.{◌≡◌, ℕ, ◌+◌, ◌-◌, ◌*◌, ◌≤◌, eqb, length};
 ghost use Rattle.laws.specs.Pick.{pick};
 ghost use Rattle.laws.specs.Filled.{Filled};
