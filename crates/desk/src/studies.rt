@@ -98,7 +98,7 @@ fn read<F: Read + Drop>(name: &[u8], mut file: F) -> u64
     }
 }
 
-// A path is UTF-8 text.
+// A path is UTF-8 text: a name that is not cannot be opened.
 pub(crate) fn opened(rt: &impl Files, name: &[u8]) -> u64
     ensures { result ≤ 1 }
 {

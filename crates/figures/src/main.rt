@@ -75,7 +75,7 @@ fn read<F: Read + Drop>(
     }
 }
 
-// A path is UTF-8 text.
+// A path is UTF-8 text: a name that is not cannot be opened.
 fn opened(rt: &impl Files, word: &[u8], name: &[u8], t: Tally, names: &mut [u8; 8192]) -> Tally {
     match std::str::from_utf8(name) {
         Err(_) => lost(word, name, t, names),

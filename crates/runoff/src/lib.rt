@@ -8,6 +8,7 @@ ghost use Rattle.runoff.specs.RunoffDepth.{depth};
 
 // The runoff in millionths of an inch. The test comes before the difference: a drizzle, for which
 // the difference would be negative, never has it squared.
+#[tactic(auto, using(crate::proofs::Rising::depth_none))]
 pub fn depth(tenths: u64, rain: u64) -> u64
     requires { CurveOk tenths × (rain ≤ most_rain) }
     ensures { result ≡ depth tenths rain }

@@ -126,7 +126,7 @@ fn read<F: Read + Drop>(name: &[u8], mut file: F) {
     }
 }
 
-// A path is UTF-8 text.
+// A path is UTF-8 text: a name that is not cannot be opened.
 fn opened(rt: &impl Files, name: &[u8]) {
     match std::str::from_utf8(name) {
         Err(_) => faults::whole(name, texts::UNOPENED),

@@ -7,7 +7,7 @@ use mir.Val.{Fits}
 use mir.Syntax.{w64}
 use Rattle.laws.proofs.Num.{mul_fits}
 use Rattle.runoff.specs.RunoffDepth.{M}
-use Rattle.runoff.proofs.Rising.{depth_some, depth_none, m_some}
+use Rattle.runoff.proofs.Rising.{depth_some, m_some}
 use Rattle.runoff.proofs.depth.Goals as goal
 
 -- c p within the limits
@@ -30,9 +30,6 @@ overflow_mul-product c = mul_fits 980 30000 c.requires.0.most c.requires.1 tt
 
 pub overflow_add-wetted : goal.overflow_add-wetted
 overflow_add-wetted c = omega (arith, product c)
-
-pub returns-then-wetted-le2000000 : goal.returns-then-wetted-le2000000
-returns-then-wetted-le2000000 c = sym (depth_none c.args.tenths c.args.rain (omega arith))
 
 pub overflow_add-m : goal.overflow_add-m
 overflow_add-m c = omega (arith, product c.before)
