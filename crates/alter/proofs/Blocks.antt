@@ -1,14 +1,24 @@
 -- The new inflow rows block by block: written over those found, or held against them for the first that differs. Assumes nothing.
 use mathlib.Core.Path.{◌≡◌, refl, sym, ap, ◌∙◌, subst}
-use mathlib.Core.Bool.{true, false}
+use mathlib.Core.Bool.{Bool, true, false}
 use mathlib.Core.Logic.{⊎_elim}
 use mathlib.Core.List.{List, ◌++◌, append_assoc, append-nil}
 use Prim.Native.Nat.{ℕ, ◌+◌, ◌-◌, ◌≤◌, ◌<◌}
 use native.Mathlib.Omega.{arith}
 use borrow.Rule.Slice.PartMut.{mid_of, put_mid, mid_len}
-use lib.Dec.{eqb}
+use borrow.Author.Tests.{ltb-true, ltb-false}
+use lib.Dec.{eqb, ltb}
 use lib.ListN.{length, take, drop, length-append, length-drop}
 use lib.Seq.{take_at, drop_at, drop-drop, take-add, take_all, length-take-le, get_or-take, get_or-drop}
+use Rattle.std.specs.Prelude.{Option, Some, None}
+use Rattle.std.specs.Option.{unwrap_or}
+use Rattle.std.proofs.lemmas.Option.{none-some}
+use Rattle.laws.specs.Pick.{pick}
+use Rattle.laws.specs.Scan.{scan}
+use Rattle.laws.specs.Search.{first_bad_of}
+use Rattle.refusals.specs.Refusals.{stopped}
+use Rattle.refusals.proofs.Orders.{stopped_none}
+use Rattle.laws.proofs.Places.{search_scan}
 use Rattle.laws.proofs.Num.{below_or_not}
 use Rattle.laws.proofs.Fill.{drop_none}
 use Rattle.laws.proofs.Scans.{scan_most, scan_before, scan_bad, scan_is}
@@ -16,6 +26,49 @@ use Rattle.rows.specs.Figures.{at}
 use Rattle.alter.specs.Altering.{swapped, first_changed}
 use Rattle.alter.specs.Needs.{PartsFit}
 use Rattle.alter.proofs.Swapping.{swapped_length, swapped_at, swapped_append}
+
+-- where a search gives the number of places for none, the place or their number is where a scan stops
+stopped_or : (at many : ℕ) → at ≤ many → unwrap_or (stopped at many) many ≡ at
+stopped_or at many l = go (ltb at many) refl
+  where
+    go : (b : Bool) → ltb at many ≡ b → unwrap_or (pick b (Some at) None) many ≡ at
+    go true t = refl
+    go false t = omega (arith, l, ltb-false at many t)
+
+pub first_found : (vs ws : List ℕ) → unwrap_or (first_bad_of (λ i. eqb (at vs i) (at ws i)) (length vs)) (length vs) ≡ first_changed vs ws
+unfolding first_changed
+first_found vs ws =
+    let good : ℕ → Bool = λ i. eqb (at vs i) (at ws i) in
+    rw (search_scan good (length vs)) (stopped_or (scan good (length vs) 0) (length vs) (omega (arith, scan_most good (length vs) 0)))
+
+-- a place that it found is that one, and it found none where the scan ran to the end
+pub stopped_some : (at many : ℕ) {k : ℕ} → stopped at many ≡ Some k → (k ≡ at) × (at < many)
+stopped_some at many {k} e = go (ltb at many) refl e
+  where
+    go : (b : Bool) → ltb at many ≡ b → pick b (Some at) None ≡ Some k → (k ≡ at) × (at < many)
+    go true t q = (ap (λ (o : Option ℕ). unwrap_or o 0) (sym q), ltb-true at many t)
+    go false t q = absurd (none-some k q)
+
+pub found_some : (vs ws : List ℕ) {k : ℕ} → first_bad_of (λ i. eqb (at vs i) (at ws i)) (length vs) ≡ Some k → (k ≡ first_changed vs ws) × (k < length vs)
+unfolding first_changed
+found_some vs ws e =
+    let r = stopped_some (scan (λ i. eqb (at vs i) (at ws i)) (length vs) 0) (length vs) (sym (search_scan (λ i. eqb (at vs i) (at ws i)) (length vs)) ∙ e) in
+    (r.0, omega (arith, r.0, r.1))
+
+pub found_none : (vs ws : List ℕ) → first_bad_of (λ i. eqb (at vs i) (at ws i)) (length vs) ≡ None → length vs ≤ first_changed vs ws
+unfolding first_changed
+found_none vs ws e = stopped_none (scan (λ i. eqb (at vs i) (at ws i)) (length vs) 0) (length vs) (sym (search_scan (λ i. eqb (at vs i) (at ws i)) (length vs)) ∙ e)
+
+-- a block off the front of the rows from row a on is a part of the rows
+module _ (vs : List ℕ) (a : ℕ) (some : a ≤ length vs) (front rest : List ℕ) (parts : drop a vs ≡ front ++ rest) where
+  pub block_end : a + length front ≤ length vs
+  block_end = omega (arith, some, length-drop a vs, ap length parts, length-append front rest)
+
+  pub block_is : front ≡ mid_of a (a + length front - a) vs
+  block_is = let e : a + length front - a ≡ length front = omega arith in rw (e, parts) (sym (take_at front rest (length front) refl))
+
+  pub rest_is : rest ≡ drop (a + length front) vs
+  rest_is = sym (sym (drop-drop (length front) a vs) ∙ ap (drop (length front)) parts ∙ drop_at front rest (length front) refl)
 
 -- a row of a part of a list is a row of the list
 pub mid_at : (vs : List ℕ) (a e i : ℕ) → i < e - a → at (mid_of a (e - a) vs) i ≡ at vs (a + i)
@@ -155,3 +208,27 @@ module _ (f g : ℕ → ℕ) (vs : List ℕ) where
   unfolding first_changed
   unchanged_end {a} so l =
       sym (scan_is (λ i. eqb (at vs i) (at (swapped f g 1 vs) i)) (length vs) (length vs) (omega arith) (λ j h. so.each j (omega arith)) (λ h. absurd (omega arith)))
+
+-- a block off the front of the rows that are still due, held against its new rows
+module _ (f g : ℕ → ℕ) (vs : List ℕ) {a : ℕ} (so : Unchanged f g vs a) (front rest : List ℕ) (parts : drop a vs ≡ front ++ rest) where
+  -- its parts fit
+  pub front_fits : PartsFit f 0 vs → PartsFit f a front
+  front_fits fit =
+      let from : 0 + a ≡ a = omega arith in
+      subst (λ (l : List ℕ). PartsFit f a l) (sym (block_is vs a so.so_far front rest parts))
+      (subst (λ (z : ℕ). PartsFit f z (mid_of a (a + length front - a) vs)) from (mid_fits f 0 vs fit a (a + length front) (block_end vs a so.so_far front rest parts)))
+
+  module _ (new : List ℕ) (is : new ≡ swapped f g (a + 1) front) where
+    first_is : first_changed front new ≡ first_changed (mid_of a (a + length front - a) vs) (swapped f g (a + 1) (mid_of a (a + length front - a) vs))
+    first_is = ap (first_changed front) is ∙ ap (λ (l : List ℕ). first_changed l (swapped f g (a + 1) l)) (block_is vs a so.so_far front rest parts)
+
+    -- the changed row found in it is the first of all
+    pub front_stop : {k : ℕ} → first_bad_of (λ i. eqb (at front i) (at new i)) (length front) ≡ Some k → a + k ≡ first_changed vs (swapped f g 1 vs)
+    front_stop {k} e =
+        let found = found_some front new e in
+        unchanged_stop f g vs so (a + length front) (block_end vs a so.so_far front rest parts) k (found.0 ∙ first_is) (omega (arith, found.1))
+
+    -- it is passed where none is found
+    pub front_turn : first_bad_of (λ i. eqb (at front i) (at new i)) (length front) ≡ None → Unchanged f g vs (a + length front)
+    front_turn e =
+        unchanged_turn f g vs so (a + length front) (block_end vs a so.so_far front rest parts) (first_changed front new) first_is (omega arith) (omega (arith, found_none front new e))

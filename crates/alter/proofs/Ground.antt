@@ -11,7 +11,7 @@ use Rattle.subarea.specs.Records.{records_in, record_at, patches, area_of}
 use Rattle.checks.specs.Order.{all_area}
 use Rattle.study.specs.Study.{class_total, classes_all}
 use Rattle.subarea.proofs.Subareas.{patches_fit}
-use Rattle.study.proofs.Totals.{sum_ok}
+use Rattle.study.proofs.Totals.{class_sum}
 use Rattle.alter.specs.Altering.{altered, old_record}
 use Rattle.alter.specs.Needs.{classes_swapped, PlaceOk, SwapOk, GroundOk}
 use Rattle.alter.proofs.Places.{sum_altered}
@@ -33,7 +33,7 @@ module _ (s : List ℕ) (k : ℕ) (r : List ℕ) (ok : PlaceOk s k r) where
 -- they can be taken away and added
 pub swap_ok : (s : List ℕ) (k : ℕ) (r : List ℕ) → GroundOk s k r → SwapOk (classes_all s) (classes_of (patches (old_record s k))) (classes_of (patches r))
 swap_ok s k r ok =
-    let sums = sum_ok s ok.place.records ok.patched (records_in s) (omega arith) in
+    let sums : (class : ℕ) → class_total s class ≤ 100000000 = λ class. class_sum s ok.place.records ok.patched class (records_in s) (omega arith) in
     let fit = patches_fit r ok.fresh in
     let own : (class : ℕ) → class_in class r ≤ 1600000 = λ class. omega (arith, fit.most, class_to (patches r) fit class (Curve.patches_in (patches r)) (omega arith)) in
     record {
@@ -41,10 +41,10 @@ swap_ok s k r ok =
       districts_least = old_in s k r ok.place 2;
       lots_least = old_in s k r ok.place 3;
       rural_least = old_in s k r ok.place 4;
-      surfaces_most = omega (arith, sums.surfaces_most, own 1);
-      districts_most = omega (arith, sums.districts_most, own 2);
-      lots_most = omega (arith, sums.lots_most, own 3);
-      rural_most = omega (arith, sums.rural_most, own 4);
+      surfaces_most = omega (arith, sums 1, own 1);
+      districts_most = omega (arith, sums 2, own 2);
+      lots_most = omega (arith, sums 3, own 3);
+      rural_most = omega (arith, sums 4, own 4);
     }
 
 -- and so can the areas

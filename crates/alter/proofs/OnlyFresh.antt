@@ -1,32 +1,20 @@
 -- Once the list as it stands has passed 6 to 11, only the fresh record can fail 6, 7, 9, 10 or 11 on the altered list, and 8 is the total less the old area plus the new. Assumes nothing.
-use mathlib.Core.Path.{◌≡◌, refl, sym, ap}
-use mathlib.Core.Bool.{Bool, true, true≢false, ◌&&◌}
+use mathlib.Core.Path.{◌≡◌, refl, ap}
 use mathlib.Core.List.{List, [], ◌∷◌, map}
-use Prim.Native.Nat.{ℕ, zero, suc, ◌-◌, ◌≤◌, ◌<◌}
+use Prim.Native.Nat.{ℕ, ◌-◌, ◌≤◌, ◌<◌}
 use native.Mathlib.Omega.{arith}
-use lib.Dec.{ltb}
 use Rattle.laws.proofs.Sums.{sum_term}
-use Rattle.laws.proofs.Tests.{both_left, both_right}
 use Rattle.laws.specs.Limits.{most_area}
 use Rattle.subarea.specs.declared.Setup.{Setup}
 use Rattle.subarea.specs.Records.{records_in, record_at, area_of}
 use Rattle.checks.specs.Order.{ListTest, each, total, all_area, over_list, list_tests, list_lines}
-use Rattle.refusals.specs.Refusals.{unless, AllPass}
+use Rattle.refusals.specs.Refusals.{none, unless, AllPass}
 use Rattle.checks.specs.Needs.{StepOk, RecordOk}
 use Rattle.checks.proofs.Passed.{each_passes}
 use Rattle.checks.proofs.Ready.{list_ok}
 use Rattle.alter.specs.Altering.{altered, old_record}
 use Rattle.alter.specs.Needs.{altered_area, over_fresh, fresh_lines, PlaceOk}
 use Rattle.alter.proofs.Places.{sum_altered, only_fresh, altered_here, altered_count, altered_records}
-
--- no test is numbered 0
-abbrev numbered : ListTest → Bool
-numbered (each n good) = ltb 0 n
-numbered (total n good) = true
-
-abbrev all_numbered : List ListTest → Bool
-all_numbered [] = true
-all_numbered (t ∷ ts) = numbered t && all_numbered ts
 
 module _ (s : List ℕ) (k : ℕ) (r : List ℕ) (ok : PlaceOk s k r) where
   -- the old record's area is in the total
@@ -38,20 +26,18 @@ module _ (s : List ℕ) (k : ℕ) (r : List ℕ) (ok : PlaceOk s k r) where
   area_altered = omega (arith, sum_altered s k r ok area_of, old_area)
 
   -- one test
-  one_fresh : (t : ListTest) → numbered t ≡ true → (over_list s t).number ≡ 0 → over_list (altered s k r) t ≡ over_fresh s k r t
-  one_fresh (each zero good) q e = absurd (true≢false (sym q))
-  one_fresh (each (suc n) good) q e = only_fresh s k r ok good (each_passes s n good e) (suc n)
-  one_fresh (total n good) q e = ap (λ (a : ℕ). unless n (good a)) area_altered
+  one_fresh : (t : ListTest) → over_list s t ≡ none → over_list (altered s k r) t ≡ over_fresh s k r t
+  one_fresh (each rule good) e = only_fresh s k r ok good (each_passes s rule good e) rule
+  one_fresh (total rule good) e = ap (λ (a : ℕ). unless rule (good a)) area_altered
 
   -- any of them
-  all_fresh : (ts : List ListTest) → all_numbered ts ≡ true → AllPass (map (over_list s) ts) → map (over_list (altered s k r)) ts ≡ map (over_fresh s k r) ts
-  all_fresh [] q p = refl
-  all_fresh (t ∷ ts) q p =
-      rw (one_fresh t (both_left (numbered t) (all_numbered ts) q) p.0, all_fresh ts (both_right (numbered t) (all_numbered ts) q) p.1)
+  all_fresh : (ts : List ListTest) → AllPass (map (over_list s) ts) → map (over_list (altered s k r)) ts ≡ map (over_fresh s k r) ts
+  all_fresh [] p = refl
+  all_fresh (t ∷ ts) p = rw (one_fresh t p.0, all_fresh ts p.1) refl
 
   -- 6 to 11
   pub altered_lines : (g : Setup) → AllPass (list_lines g s) → list_lines g (altered s k r) ≡ fresh_lines g s k r
-  altered_lines g p = all_fresh (list_tests g) refl p
+  altered_lines g p = all_fresh (list_tests g) p
 
   -- what the passing of the altered list leaves of the fresh record
   pub fresh_ok : (g : Setup) → StepOk g.step → AllPass (list_lines g (altered s k r)) → RecordOk g r × (area_of r ≤ most_area)

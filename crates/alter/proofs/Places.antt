@@ -15,7 +15,10 @@ use Rattle.laws.proofs.Num.{below_or_not}
 use Rattle.laws.proofs.Scans.{scan_is, scan_whole}
 use Rattle.laws.proofs.Sums.{sum_same}
 use Rattle.subarea.specs.Records.{width, records_in, record_at}
-use Rattle.refusals.specs.Refusals.{charge, first_of}
+use Rattle.laws.specs.Search.{first_bad_of}
+use Rattle.refusals.specs.declared.Rule.{Rule}
+use Rattle.refusals.specs.Refusals.{charge, stopped, first_of}
+use Rattle.laws.proofs.Places.{search_scan}
 use Rattle.subarea.specs.Needs.{RecordsOk}
 use Rattle.alter.specs.Altering.{altered, old_record}
 use Rattle.alter.specs.Needs.{PlaceOk}
@@ -123,11 +126,11 @@ module _ (s : List ℕ) (k : ℕ) (r : List ℕ) (ok : PlaceOk s k r) where
         (λ i l. other i (omega (arith, ok.last)) (λ e. omega (arith, e, l)))
         (λ l. ap test altered_here ∙ t)
 
-    pub only_fresh : (number : ℕ) → first_of number (scan (λ i. test (record_at (altered s k r) i)) (records_in (altered s k r)) 0) (records_in (altered s k r)) ≡ charge number (test r) k
-    only_fresh number = rw altered_count (go (test r) refl)
+    pub only_fresh : (rule : Rule) → first_of rule (first_bad_of (λ i. test (record_at (altered s k r) i)) (records_in (altered s k r))) ≡ charge rule (test r) k
+    only_fresh rule = rw (search_scan (λ i. test (record_at (altered s k r) i)) (records_in (altered s k r)), altered_count) (go (test r) refl)
       where
-        go : (b : Bool) → test r ≡ b → first_of number (scan (λ i. test (record_at (altered s k r) i)) (records_in s) 0) (records_in s) ≡ charge number b k
-        go true t = rw (passing t, le-ltb (records_in s) (records_in s) (omega arith))
+        go : (b : Bool) → test r ≡ b → first_of rule (stopped (scan (λ i. test (record_at (altered s k r) i)) (records_in s) 0) (records_in s)) ≡ charge rule b k
+        go true t = rw (passing t, le-ltb (records_in s) (records_in s) (omega arith)) refl
         go false t =
             let e : k - 1 + 1 ≡ k = omega (arith, ok.listed) in
-            rw (failing t, lt-ltb (k - 1) (records_in s) (omega (arith, ok.listed, ok.last)), e)
+            rw (failing t, lt-ltb (k - 1) (records_in s) (omega (arith, ok.listed, ok.last)), e) refl

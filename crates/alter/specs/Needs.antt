@@ -1,13 +1,12 @@
--- What contracts ask of an edit, and proofs use; no rule of document 01 is here. What is left of 6 to 11 on the altered list once the list as it stands has passed them (the same tests, each of the fresh record alone, and 8 of the total less the old area plus the new).
+-- What contracts ask of an edit, and proofs use; no rule of docs/SCOPE.md is here. What is left of 6 to 11 on the altered list once the list as it stands has passed them (the same tests, each of the fresh record alone, and 8 of the total less the old area plus the new).
 use Rattle.std.specs.Prelude.{◌≡◌, true, List, map, ℕ, ◌+◌, ◌-◌, ◌≤◌, ◌<◌, length}
 use Rattle.curve.specs.declared.Classes.{Classes}
 use Rattle.hydrograph.specs.Needs.{RoomOk}
 use Rattle.rows.specs.Figures.{at}
-use Rattle.refusals.specs.declared.Refusal.{Refusal}
 use Rattle.subarea.specs.declared.Setup.{Setup}
 use Rattle.subarea.specs.Records.{width, records_in, area_of, patches_pass}
 use Rattle.checks.specs.Order.{ListTest, each, total, all_area, list_tests, list_lines}
-use Rattle.refusals.specs.Refusals.{charge, unless, first_refusal}
+use Rattle.refusals.specs.Refusals.{Line, none, charge, unless, first_refusal}
 use Rattle.subarea.specs.Needs.{RecordsOk, AllPatches}
 use Rattle.checks.specs.Needs.{StepOk}
 use Rattle.alter.specs.Altering.{old_record}
@@ -17,11 +16,11 @@ abbrev pub altered_area : List ℕ → ℕ → List ℕ → ℕ
 altered_area s k r = all_area s - area_of (old_record s k) + area_of r
 
 -- a test of a list, where only the fresh record can fail it
-abbrev pub over_fresh : List ℕ → ℕ → List ℕ → ListTest → Refusal
-over_fresh s k r (each n good) = charge n (good r) k
-over_fresh s k r (total n good) = unless n (good (altered_area s k r))
+abbrev pub over_fresh : List ℕ → ℕ → List ℕ → ListTest → Line
+over_fresh s k r (each rule good) = charge rule (good r) k
+over_fresh s k r (total rule good) = unless rule (good (altered_area s k r))
 
-abbrev pub fresh_lines : Setup → List ℕ → ℕ → List ℕ → List Refusal
+abbrev pub fresh_lines : Setup → List ℕ → ℕ → List ℕ → List Line
 fresh_lines g s k r = map (over_fresh s k r) (list_tests g)
 
 -- class areas, the old record's taken away (exact: `swap_ok`) and the fresh one's added
@@ -44,7 +43,7 @@ pub record PlaceOk (s : List ℕ) (k : ℕ) (r : List ℕ) : Type 0 where
 -- a step within its limits, and a list that passes 6 to 11
 pub record PassedOk (g : Setup) (s : List ℕ) : Type 0 where
   pub step : StepOk g.step
-  pub none_refused : (first_refusal (list_lines g s)).number ≡ 0
+  pub none_refused : first_refusal (list_lines g s) ≡ none
 
 -- a list and a fresh record whose areas can be summed
 pub record GroundOk (s : List ℕ) (k : ℕ) (r : List ℕ) : Type 0 where

@@ -5,7 +5,8 @@
 
 pub mod order;
 
-ghost use Rattle.std.specs.Prelude.{◌≡◌, ℕ, ◌+◌, ◌-◌, ◌≤◌, length};
+ghost use Rattle.std.specs.Prelude.{◌≡◌, ℕ, ◌+◌, ◌-◌, ◌≤◌, length, eqb};
+ghost use Rattle.laws.specs.Search.{first_bad_of};
 ghost use Rattle.laws.specs.Filled.{Filled};
 ghost use Rattle.curve.specs.declared.Classes.{Classes};
 ghost use Rattle.laws.specs.Limits.{most_rows};
@@ -13,8 +14,10 @@ ghost use Rattle.hydrograph.specs.Needs.{RainOk};
 ghost use Rattle.rows.specs.Figures.{at};
 ghost use Rattle.sums.specs.Needs.{block_rows, NumbersOk};
 ghost use Rattle.parts.specs.Needs.{part_by};
+ghost use Rattle.subarea.specs.Records.{width, records_in};
+ghost use Rattle.subarea.specs.Needs.{RecordsOk};
 ghost use Rattle.study.specs.Study.{classes_all};
-ghost use Rattle.alter.specs.Altering.{altered, swapped, first_changed};
+ghost use Rattle.alter.specs.Altering.{altered, old_record, swapped, first_changed};
 ghost use Rattle.alter.specs.Needs.{classes_swapped, SwapOk, GroundOk, PartsOk, PartsFit};
 
 use sums::Numbers;
@@ -25,10 +28,9 @@ fn take_away(inflow: &[u64], rows: &mut [u64])
     ensures filled { Filled (λ (i : ℕ). at inflow.now i - at rows.old i) (length inflow.now) rows.new }
     ensures rows_len { length rows.new ≡ length inflow.now }
 {
-    let mut i = 0;
-    while i < inflow.len() {
+    // By place: after `iter_mut` with a second list nothing is known of what was written.
+    for i in 0..inflow.len() {
         rows[i] = inflow[i] - rows[i];
-        i += 1;
     }
 }
 
@@ -47,7 +49,7 @@ pub fn swap_block(
     requires rows_len { (length rows.old ≡ length inflow.now) × ((1 ≤ length inflow.now) × ((length inflow.now ≤ block_rows) × (from + length inflow.now ≤ most_rows))) }
     ensures { rows.new ≡ swapped (part_by step rain.now old) (part_by step rain.now fresh) (from + 1) inflow.now }
 {
-    laws::clear(rows);
+    rows.fill(0);
     parts::add_block(old, step, rain, from, rows);
     take_away(inflow, rows);
     parts::add_block(fresh, step, rain, from, rows);
@@ -66,47 +68,34 @@ pub fn swap_rows(
     requires inflow_bound { from + length inflow.old ≤ most_rows }
     ensures { inflow.new ≡ swapped (part_by step rain.now old) (part_by step rain.now fresh) (from + 1) inflow.old }
 {
+    // By hand, not by `chunks_mut`: of what that has lent a proof knows no more than the length.
     let m = inflow.len();
     let mut at = 0;
     while at < m {
-        let e = laws::least(at + sums::BLOCK, m);
+        let e = m.min(at + sums::BLOCK);
         swap_in_place(old, fresh, step, rain, from + at, &mut inflow[at..e]);
         at = e;
     }
 }
 
-// The first row (from 0) whose inflow the fresh record changes, or the number of rows: looked for block by block.
+// The first row (from 0) whose inflow the fresh record changes, or the number of rows: looked for block by block. Not an
+// `Option`: so many rows stand as they were, and an edit splits its lists there.
 pub fn first_swapped(old: Numbers, fresh: Numbers, step: u64, rain: &[u64], inflow: &[u64]) -> usize
     requires numbers_ok { NumbersOk step old × (NumbersOk step fresh × (RainOk rain.now × PartsFit (part_by step rain.now old) 0 inflow.now)) }
     requires inflow_len_bound { length inflow.now ≤ most_rows }
     ensures { result ≡ first_changed inflow.now (swapped (part_by step rain.now old) (part_by step rain.now fresh) 1 inflow.now) }
 {
-    let m = inflow.len();
     let mut rows = [0u64; sums::BLOCK];
     let mut at = 0;
-    while at < m {
-        let e = laws::least(at + sums::BLOCK, m);
-        let n = e - at;
-        swap_block(old, fresh, step, rain, at, &inflow[at..e], &mut rows[..n]);
-        let k = first_changed(&inflow[at..e], &rows[..n]);
-        if k < n {
+    for block in inflow.chunks(sums::BLOCK) {
+        let new = &mut rows[..block.len()];
+        swap_block(old, fresh, step, rain, at, block, new);
+        if let Some(k) = first_difference(block, new) {
             return at + k;
         }
-        at = e;
+        at += block.len();
     }
-    m
-}
-
-// Copies a list over another of its length.
-fn copy(from: &[u64], to: &mut [u64])
-    requires { length to.old ≡ length from.now }
-    ensures { to.new ≡ from.now }
-{
-    let mut i = 0;
-    while i < from.len() {
-        to[i] = from[i];
-        i += 1;
-    }
+    at
 }
 
 // Writes the new inflow of a block over that found.
@@ -122,25 +111,28 @@ fn swap_in_place(
     requires in_bounds { (1 ≤ length inflow.old) × ((length inflow.old ≤ block_rows) × (from + length inflow.old ≤ most_rows)) }
     ensures { inflow.new ≡ swapped (part_by step rain.now old) (part_by step rain.now fresh) (from + 1) inflow.old }
 {
-    let n = inflow.len();
     let mut rows = [0u64; sums::BLOCK];
-    swap_block(old, fresh, step, rain, from, inflow, &mut rows[..n]);
-    copy(&rows[..n], inflow);
+    let new = &mut rows[..inflow.len()];
+    swap_block(old, fresh, step, rain, from, inflow, new);
+    inflow.copy_from_slice(new);
 }
 
-// The first row (from 0) whose inflow volume differs, or the number of rows.
+// The first row (from 0) whose inflow volume differs.
+fn first_difference(inflow: &[u64], new: &[u64]) -> Option<usize>
+    requires { length new.now ≡ length inflow.now }
+    ensures { result ≡ first_bad_of (λ i. eqb (at inflow.now i) (at new.now i)) (length inflow.now) }
+{
+    (0..inflow.len()).position(|i| inflow[i] != new[i])
+}
+
+// The same, or the number of rows where none differs: so many rows stand as they were. Called nowhere: docs/PROMISES.md names its
+// theorem.
+#[tactic(auto, using(crate::proofs::Blocks::first_found))]
 pub fn first_changed(inflow: &[u64], new: &[u64]) -> usize
     requires { length new.now ≡ length inflow.now }
     ensures { result ≡ first_changed inflow.now new.now }
 {
-    let mut i = 0;
-    while i < inflow.len() {
-        if inflow[i] != new[i] {
-            return i;
-        }
-        i += 1;
-    }
-    i
+    first_difference(inflow, new).unwrap_or(inflow.len())
 }
 
 // Class areas, one record's taken away and another's added.
@@ -148,12 +140,16 @@ fn swap_classes(all: curve::Classes, old: curve::Classes, own: curve::Classes) -
     requires { SwapOk all old own }
     ensures { result ≡ classes_swapped all old own }
 {
-    curve::Classes {
-        surfaces: all.surfaces - old.surfaces + own.surfaces,
-        districts: all.districts - old.districts + own.districts,
-        lots: all.lots - old.lots + own.lots,
-        rural: all.rural - old.rural + own.rural,
-    }
+    all - old + own
+}
+
+// The record at a place of the list.
+pub(crate) fn old_record(subareas: &[u64], place: u64) -> &[u64]
+    requires { RecordsOk subareas.now × ((1 ≤ place) × (place ≤ records_in subareas.now)) }
+    ensures own { result.now ≡ old_record subareas.now place }
+    ensures whole { length result.now ≡ width }
+{
+    &subarea::records(subareas)[place as usize - 1]
 }
 
 // The area of each class over the altered list, which is never made.
@@ -161,10 +157,8 @@ pub fn altered_classes(subareas: &[u64], place: u64, fresh: &[u64]) -> curve::Cl
     requires { GroundOk subareas.now place fresh.now }
     ensures { result ≡ classes_all (altered subareas.now place fresh.now) }
 {
-    let a = subarea::WIDTH * (place as usize - 1);
-    let e = a + subarea::WIDTH;
     let all = study::all_classes(subareas);
-    let old = subarea::classes(&subareas[a..e]);
+    let old = subarea::classes(old_record(subareas, place));
     let own = subarea::classes(fresh);
     swap_classes(all, old, own)
 }

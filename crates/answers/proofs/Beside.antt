@@ -2,17 +2,17 @@
 use mathlib.Core.Path.{◌≡◌, refl}
 use lib.ListN.{take}
 use Rattle.study.specs.Study.{study_refusal_in}
-use Rattle.edit.specs.declared.EditAnswer.{EditAnswer}
-use Rattle.edit.specs.declared.EditAnswer.TheVariants.{Refused, Done}
-use Rattle.edit.specs.Edit.{edit_refusal_in}
+use Rattle.std.specs.Prelude.{Ok, Err}
+use Rattle.refusals.specs.Refusals.{told}
+use Rattle.edit.specs.Edit.{EditAnswer, edit_refusal_in}
 use Rattle.edit.specs.Standing.{study_in}
 use Rattle.answers.specs.StudyNumbers.{study_numbers_of}
 use Rattle.answers.specs.EditNumbers.{edit_numbers_of}
 
 pub first_twelve : (a : EditAnswer) → take 12 (edit_numbers_of a) ≡ study_numbers_of (study_in a)
-first_twelve (Refused v) = refl
-first_twelve (Done e) = refl
+first_twelve (Err v) = refl
+first_twelve (Ok e) = refl
 
-pub same_number : (a : EditAnswer) → (edit_refusal_in a).number ≡ (study_refusal_in (study_in a)).number
-same_number (Refused v) = refl
-same_number (Done e) = refl
+pub same_number : (a : EditAnswer) → (told (edit_refusal_in a)).0 ≡ (told (study_refusal_in (study_in a))).0
+same_number (Err v) = refl
+same_number (Ok e) = refl

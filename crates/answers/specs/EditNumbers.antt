@@ -1,16 +1,21 @@
 -- An edit's answer as a host has it: thirteen numbers, the twelve of a study's and the first changed row; and the two changes, with their signs.
-use Rattle.std.specs.Prelude.{List, [], ◌∷◌, ◌++◌, ℕ, ℤ}
+use Rattle.std.specs.Prelude.{List, [], ◌∷◌, ◌++◌, ℕ, ℤ, Option, None, Some}
+use Rattle.refusals.specs.Refusals.{told}
 use Rattle.rewrite.specs.declared.Edited.{Edited}
-use Rattle.edit.specs.declared.EditAnswer.{EditAnswer}
-use Rattle.edit.specs.Edit.{edit_refusal_in, edit_values_in}
+use Rattle.edit.specs.Edit.{EditAnswer, edit_refusal_in, edit_values_in}
 use Rattle.answers.specs.StudyNumbers.{study_numbers}
 
+-- the first changed row as it is told, from 1: 0 for none
+abbrev pub told_row : Option ℕ → ℕ
+told_row None = 0
+told_row (Some k) = k
+
 abbrev pub edit_numbers : ℕ → ℕ → Edited → List ℕ
-edit_numbers number place e = study_numbers number place e.figures ++ (e.changed ∷ [])
+edit_numbers number place e = study_numbers number place e.figures ++ (told_row e.changed ∷ [])
 
 -- refused: the number and the place, every value 0; done: 0 and 0, and the values
 abbrev pub edit_numbers_of : EditAnswer → List ℕ
-edit_numbers_of a = edit_numbers (edit_refusal_in a).number (edit_refusal_in a).place (edit_values_in a)
+edit_numbers_of a = edit_numbers (told (edit_refusal_in a)).0 (told (edit_refusal_in a)).1 (edit_values_in a)
 
 -- peak outflow and total released, new less old
 abbrev pub changes_of : Edited → List ℤ

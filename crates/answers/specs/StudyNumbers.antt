@@ -1,8 +1,8 @@
 -- A study's answer as a host has it: twelve numbers, the refusal, its place, then the figures.
 use Rattle.std.specs.Prelude.{List, [], ◌∷◌, ℕ}
 use Rattle.study.specs.declared.Figures.{Figures}
-use Rattle.study.specs.declared.StudyAnswer.{StudyAnswer}
-use Rattle.study.specs.Study.{study_refusal_in, study_values_in}
+use Rattle.refusals.specs.Refusals.{told}
+use Rattle.study.specs.Study.{StudyAnswer, study_refusal_in, study_values_in}
 
 abbrev pub study_numbers : ℕ → ℕ → Figures → List ℕ
 study_numbers number place f =
@@ -10,4 +10,4 @@ study_numbers number place f =
 
 -- refused: the number and the place, every value 0; done: 0 and 0, and the values
 abbrev pub study_numbers_of : StudyAnswer → List ℕ
-study_numbers_of a = study_numbers (study_refusal_in a).number (study_refusal_in a).place (study_values_in a)
+study_numbers_of a = study_numbers (told (study_refusal_in a)).0 (told (study_refusal_in a)).1 (study_values_in a)

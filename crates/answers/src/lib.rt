@@ -2,37 +2,19 @@
 #![tactic(auto)]
 
 ghost use Rattle.std.specs.Prelude.{◌≡◌};
-ghost use Rattle.study.specs.Study.{study_refusal_in, no_figures};
+ghost use Rattle.refusals.specs.Refusals.{told};
+ghost use Rattle.study.specs.Study.{study_refusal_in};
 ghost use Rattle.edit.specs.Edit.{edit_refusal_in, edit_values_in};
 ghost use Rattle.marks.specs.ChartMarks.{kind_of, flow_of, stage_of, mark_refusal_in, mark_values_in};
 ghost use Rattle.answers.specs.StudyNumbers.{study_numbers, study_numbers_of};
 ghost use Rattle.answers.specs.EditNumbers.{edit_numbers, edit_numbers_of, changes_of};
-ghost use Rattle.answers.specs.MarkNumbers.{mark_numbers, mark_doubles, mark_numbers_of};
+ghost use Rattle.answers.specs.MarkNumbers.{mark_numbers_of};
 ghost use Rattle.answers.specs.InflowNumbers.{refusal_numbers};
 
-use edit::EditAnswer;
-use marks::{Mark, MarkAnswer, Point};
+use marks::{Mark, Marked};
 use refusals::Refusal;
 use rewrite::Edited;
-use study::{Figures, StudyAnswer};
-
-// The figures of a refused answer.
-fn no_figures() -> Figures
-    ensures { result ≡ no_figures }
-{
-    Figures {
-        inflow: 0,
-        released: 0,
-        storage: 0,
-        peak: 0,
-        row: 0,
-        stage: 0,
-        surfaces: 0,
-        districts: 0,
-        lots: 0,
-        rural: 0,
-    }
-}
+use study::Figures;
 
 // Writes the twelve numbers of a study's answer and gives the first.
 fn write_study(number: u64, place: u64, values: Figures, answer: &mut [u64; 12]) -> u64
@@ -57,13 +39,18 @@ fn write_study(number: u64, place: u64, values: Figures, answer: &mut [u64; 12])
 }
 
 // A study's answer. Gives the refusal number, 0 when done.
-pub fn put_study(own: StudyAnswer, answer: &mut [u64; 12]) -> u64
-    ensures value { result ≡ (study_refusal_in own).number }
+pub fn put_study(own: Result<Figures, Refusal>, answer: &mut [u64; 12]) -> u64
+    ensures value { result ≡ (told (study_refusal_in own)).0 }
     ensures answer_after { answer.new ≡ study_numbers_of own }
 {
     match own {
-        StudyAnswer::Refused(v) => write_study(v.number, v.place, no_figures(), answer),
-        StudyAnswer::Done(f) => write_study(0, 0, f, answer),
+        Ok(figures) => write_study(0, 0, figures, answer),
+        Err(refusal) => write_study(
+            refusal.rule.number(),
+            refusal.place,
+            Figures::default(),
+            answer,
+        ),
     }
 }
 
@@ -93,30 +80,27 @@ fn write_edit(
         own.districts,
         own.lots,
         own.rural,
-        values.changed,
+        values.changed.unwrap_or(0),
     ];
     *changes = [values.peak, values.released];
     number
 }
 
 // An edit's answer. Gives the refusal number, 0 when done.
-pub fn put_edit(own: EditAnswer, answer: &mut [u64; 13], changes: &mut [i64; 2]) -> u64
-    ensures value { result ≡ (edit_refusal_in own).number }
+pub fn put_edit(own: Result<Edited, Refusal>, answer: &mut [u64; 13], changes: &mut [i64; 2]) -> u64
+    ensures value { result ≡ (told (edit_refusal_in own)).0 }
     ensures answer_after { answer.new ≡ edit_numbers_of own }
     ensures changes_after { changes.new ≡ changes_of (edit_values_in own) }
 {
     match own {
-        EditAnswer::Refused(v) => {
-            let figures = no_figures();
-            let empty = Edited {
-                figures,
-                changed: 0,
-                peak: 0,
-                released: 0,
-            };
-            write_edit(v.number, v.place, empty, answer, changes)
-        }
-        EditAnswer::Done(e) => write_edit(0, 0, e, answer, changes),
+        Ok(edited) => write_edit(0, 0, edited, answer, changes),
+        Err(refusal) => write_edit(
+            refusal.rule.number(),
+            refusal.place,
+            Edited::default(),
+            answer,
+            changes,
+        ),
     }
 }
 
@@ -126,87 +110,60 @@ fn kind_of(own: Mark) -> u64
     match own {
         Mark::Nothing => 0,
         Mark::Outflow(_) => 1,
-        Mark::Peak(_, _) => 2,
+        Mark::Peak { .. } => 2,
     }
 }
 
+#[tactic(auto, using(crate::proofs::Doubles::zero_double))]
 fn flow_of(own: Mark) -> f64
     ensures { result ≡ flow_of own }
 {
     match own {
         Mark::Nothing => 0.0,
-        Mark::Outflow(o) => o,
-        Mark::Peak(o, _) => o,
+        Mark::Outflow(outflow) | Mark::Peak { outflow, .. } => outflow,
     }
 }
 
+#[tactic(auto, using(crate::proofs::Doubles::zero_double))]
 fn stage_of(own: Mark) -> f64
     ensures { result ≡ stage_of own }
 {
     match own {
-        Mark::Nothing => 0.0,
-        Mark::Outflow(_) => 0.0,
-        Mark::Peak(_, s) => s,
+        Mark::Nothing | Mark::Outflow(_) => 0.0,
+        Mark::Peak { stage, .. } => stage,
     }
 }
 
-// Writes the three numbers and the five doubles of a mark's answer and gives the first number.
-fn write_mark(
-    number: u64,
-    place: u64,
-    kind: u64,
-    flow: f64,
-    stage: f64,
-    point: Point,
-    answer: &mut [u64; 3],
-    values: &mut [f64; 5],
-) -> u64
-    ensures value { result ≡ number }
-    ensures answer_after { answer.new ≡ mark_numbers number place kind }
-    ensures values_after { values.new ≡ mark_doubles flow stage point }
-{
-    *answer = [number, place, kind];
-    *values = [flow, stage, point.row, point.seconds, point.outflow];
-    number
-}
-
 // A mark's answer. Gives the refusal number, 0 when done.
-pub fn put_mark(own: MarkAnswer, answer: &mut [u64; 3], values: &mut [f64; 5]) -> u64
-    ensures value { result ≡ (mark_refusal_in own).number }
+#[tactic(auto, using(crate::proofs::Doubles::zero_double))]
+pub fn put_mark(own: Result<Marked, Refusal>, answer: &mut [u64; 3], values: &mut [f64; 5]) -> u64
+    ensures value { result ≡ (told (mark_refusal_in own)).0 }
     ensures answer_after { answer.new ≡ mark_numbers_of own }
     ensures values_after { values.new ≡ mark_values_in own }
 {
     match own {
-        MarkAnswer::Refused(v) => {
-            let nowhere = Point {
-                row: 0.0,
-                seconds: 0.0,
-                outflow: 0.0,
-            };
-            write_mark(v.number, v.place, 0, 0.0, 0.0, nowhere, answer, values)
+        Ok(Marked { mark, point }) => {
+            let flow = flow_of(mark);
+            let stage = stage_of(mark);
+            *answer = [0, 0, kind_of(mark)];
+            *values = [flow, stage, point.row, point.seconds, point.outflow];
+            0
         }
-        MarkAnswer::Done(w) => {
-            let mark = w.mark;
-            let point = w.point;
-            write_mark(
-                0,
-                0,
-                kind_of(mark),
-                flow_of(mark),
-                stage_of(mark),
-                point,
-                answer,
-                values,
-            )
+        Err(refusal) => {
+            let number = refusal.rule.number();
+            *answer = [number, refusal.place, 0];
+            *values = [0.0; 5];
+            number
         }
     }
 }
 
 // The answer of inflow rows alone, which has no figures. Gives the refusal number, 0 when done.
-pub fn put_refusal(own: Refusal, answer: &mut [u64; 2]) -> u64
-    ensures value { result ≡ own.number }
+pub fn put_refusal(own: Result<(), Refusal>, answer: &mut [u64; 2]) -> u64
+    ensures value { result ≡ (told own).0 }
     ensures answer_after { answer.new ≡ refusal_numbers own }
 {
-    *answer = [own.number, own.place];
-    own.number
+    let (number, place) = refusals::told(own);
+    *answer = [number, place];
+    number
 }

@@ -1,5 +1,16 @@
 -- Each promise of this crate allows one answer. Assumes nothing.
-use Rattle.laws.proofs.OneAnswer.{OneAnswer, same}
+use mathlib.Core.Path.{ap}
+use mathlib.Core.List.{List}
+use Prim.Native.Nat.{ℕ}
+use Rattle.std.specs.Prelude.{Result, Ok, Err}
+use Rattle.laws.proofs.OneAnswer.{OneAnswer, OneReading, same}
+use Rattle.pond.specs.declared.Pond.{Pond}
+use Rattle.refusals.specs.declared.Rule.{Rule}
+use Rattle.refusals.specs.declared.Refusal.{Refusal}
+use Rattle.refusals.specs.Refusals.{Line}
+use Rattle.refusals.proofs.Orders.{refused}
+use Rattle.checks.proofs.pond_check.Kinds as pond-check-kinds
+use Rattle.checks.proofs.pond_check.Reads as pond-check-reads
 use Rattle.checks.proofs.last_check.Kinds as last-check-kinds
 use Rattle.checks.proofs.last_check.Reads as last-check-reads
 use Rattle.checks.proofs.frame_checks.Kinds as frame-checks-kinds
@@ -33,6 +44,26 @@ frame_checks_one κs a x y s t p q = same p q
 
 pub run_checks_one : OneAnswer run-checks-kinds.ps run-checks-kinds.r run-checks-reads.Post
 run_checks_one κs a x y s t p q = same p q
+
+-- what a caller reads of a pond, and of an answer that holds one or refuses
+abbrev numbers_of : Pond → List ℕ × ℕ
+numbers_of v = (v.table.numbers.now, v.half)
+
+abbrev told : Result Pond (Refusal Rule) → Result (List ℕ × ℕ) (Refusal Rule)
+told (Ok v) = Ok (numbers_of v)
+told (Err e) = Err e
+
+-- the refusal of a line, or another where it has none
+abbrev refusal_or : Refusal Rule → Line → Refusal Rule
+refusal_or d (Ok u) = d
+refusal_or d (Err e) = e
+
+-- one pond that refusals 12 and 13 leave, or one refusal
+pub pond_check_one : OneReading pond-check-kinds.ps pond-check-kinds.r {L = Result (List ℕ × ℕ) (Refusal Rule)} (λ κs v. told v) pond-check-reads.Post
+pond_check_one κs a (Ok v) (Ok w) s t p q = λ i. Ok (same p.1.0 q.1.0 i, same p.1.1 q.1.1 i)
+pond_check_one κs a (Ok v) (Err f) s t p q = absurd (refused (same q.0 p.0))
+pond_check_one κs a (Err e) (Ok w) s t p q = absurd (refused (same p.0 q.0))
+pond_check_one κs a (Err e) (Err f) s t p q = ap (λ v. Err (refusal_or e v)) (same p.0 q.0)
 
 pub pond_checks_one : OneAnswer pond-checks-kinds.ps pond-checks-kinds.r pond-checks-reads.Post
 pond_checks_one κs a x y s t p q = same p q

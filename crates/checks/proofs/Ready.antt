@@ -1,6 +1,6 @@
 -- What the checks 1 to 13 leave, group by group. Assumes nothing.
-use mathlib.Core.Path.{◌≡◌}
-use mathlib.Core.Bool.{true, ◌&&◌}
+use mathlib.Core.Path.{◌≡◌, refl, sym, ◌∙◌}
+use mathlib.Core.Bool.{Bool, true, false, ◌&&◌}
 use mathlib.Core.List.{List, [], ◌∷◌, ◌++◌, map}
 use Prim.Native.Nat.{ℕ, ◌+◌, ◌-◌, ◌/◌, ◌%◌, ◌≤◌}
 use native.Mathlib.Nat.{add-sub_cancel}
@@ -12,21 +12,27 @@ use Rattle.laws.specs.Pick.{pick}
 use Rattle.laws.specs.Within.{within}
 use Rattle.laws.specs.Limits.{most_rows, least_step, most_step, last_number, most_rain, most_subareas, most_area}
 use Rattle.laws.proofs.Tests.{both_left, both_right, kept}
-use Rattle.laws.proofs.Scans.{scan_passes, scan_most}
+use Rattle.std.specs.Prelude.{Ok, Err, Option, None, Some}
+use Rattle.refusals.specs.declared.Rule.{Rule}
+use Rattle.refusals.specs.declared.Refusal.{Refusal}
+use Rattle.travel.specs.Needs.{TimeOk}
+use Rattle.travel.proofs.Times.{concentration_ok}
 use Rattle.travel.specs.TravelTime.{rule_good}
 use Rattle.hydrograph.specs.InflowRows.{peak_good, weights_good}
 use Rattle.hydrograph.specs.Needs.{RainOk}
 use Rattle.hydrograph.proofs.Timing.{timing_ok}
-use Rattle.pond.specs.PondRows.{rows_in, count_good, first_bad, first_short, row_good, held_good}
+use Rattle.pond.specs.PondRows.{count_good, first_bad, first_short, row_place, table_place}
 use Rattle.pond.specs.Needs.{HalfOk, TableOk, PondOk}
 use Rattle.pond.proofs.Limits.{table_ok, pond_ok}
-use Rattle.refusals.specs.Refusals.{unless, first_of, first_refusal, AllPass}
-use Rattle.refusals.proofs.Orders.{all_pass, both_pass, charge_none, first_none, first_at_none}
+use Rattle.refusals.specs.declared.Rule.TheVariants.{Lengths, Step, Rain, LastRow, Subareas, Patches, Segments, Area, Coarse, Weights, PondTable, PondHeld, Rise, SheetRule}
+use Rattle.refusals.specs.Refusals.{Line, none, unless, or_else, first_of, first_at, first_refusal, AllPass}
+use Rattle.refusals.proofs.Orders.{stops, goes_on, all_pass, both_pass, charge_none, first_none, first_at_none}
+use Rattle.laws.proofs.Places.{search_passes}
 use Rattle.subarea.specs.declared.Setup.{Setup}
 use Rattle.subarea.specs.Records.{half_of, width, records_in, record_at, time_of, patches_pass, segments_pass}
-use Rattle.subarea.specs.Needs.{RecordsOk, AllPatches, AllSegments}
+use Rattle.subarea.specs.Needs.{RecordsOk, RoutedOk, AllPatches, AllSegments}
 use Rattle.subarea.proofs.Subareas.{record_length, segments_fit, sheets_fit}
-use Rattle.checks.specs.Site.{Site, Rows, asked}
+use Rattle.checks.specs.Site.{Site, Rows, asked, basin, site}
 use Rattle.checks.specs.Order.{lengths_good, step_good, entries_good, entry_good, first_entry, rise_good, first_leap, last_good, records_good, frame_lines, rain_lines, run_lines, all_area, over_list, limit_tests, list_lines, pond_lines, inflow_lines, check_lines}
 use Rattle.checks.specs.Needs.{StepOk, RuleOk, LengthsOk, RisesOk, RunOk, ListOk, SheetsOk, BasinOk, SiteOk}
 use Rattle.checks.proofs.Passed.{each_passes}
@@ -44,14 +50,14 @@ module _ (rain : List ℕ) where
   -- 3 leaves no more entries than one more than the rows
   entries_few : (m : ℕ) → AllPass (rain_lines rain m) → length rain ≤ m + 1
   unfolding entries_good
-  entries_few m (count, _) = (kept 2 (length rain) (m + 1) (charge_none 2 _ 0 count)).high
+  entries_few m (count, _) = (kept 2 (length rain) (m + 1) (charge_none Rain _ 0 count)).high
 
   -- and a rain within its limits
   rain_ok : (m : ℕ) → AllPass (rain_lines rain m) → RainOk rain
   unfolding entries_good
   rain_ok m (count, (entry, _)) =
-      let long = kept 2 (length rain) (m + 1) (charge_none 2 _ 0 count) in
-      let each = scan_passes (entry_good rain) (length rain) (first_at_none 2 (first_entry rain) (length rain) entry) in
+      let long = kept 2 (length rain) (m + 1) (charge_none Rain _ 0 count) in
+      let each = search_passes (entry_good rain) (length rain) (first_at_none Rain (first_entry rain) entry) in
       record {
         least = long.low;
         first = eqb-true _ _ (entry_order 0 (each 0 (omega (arith, long.low))));
@@ -62,7 +68,7 @@ module _ (rain : List ℕ) where
   -- 19 leaves a rain without a leap
   rises_ok : (m : ℕ) → AllPass (rain_lines rain m) → RisesOk rain
   rises_ok m (_, (_, (leap, _))) =
-      let each = scan_passes (rise_good rain) (length rain) (first_at_none 18 (first_leap rain) (length rain) leap) in
+      let each = search_passes (rise_good rain) (length rain) (first_at_none Rise (first_leap rain) leap) in
       record { each = λ i h. leb-true _ _ (rw (add-sub_cancel i 1) at (each (i + 1) h)) }
 
 -- 5 leaves whole records
@@ -112,25 +118,25 @@ last_ok first m e = leb-true _ _ e
 
 -- 1 and 2
 pub frame_ok : (D : ℕ) (l : Rows) → AllPass (frame_lines D l) → LengthsOk l × StepOk D
-frame_ok D l (one, (two, _)) = (lengths_ok l (charge_none 0 _ 0 one), step_ok D (charge_none 1 _ 0 two))
+frame_ok D l (one, (two, _)) = (lengths_ok l (charge_none Lengths _ 0 one), step_ok D (charge_none Step _ 0 two))
 
 -- 1 to 5
 pub run_ok : (x : Site) (l : Rows) → AllPass (run_lines x l) → RunOk x l
 run_ok x l a =
     let g = x.setup in
-    let ends = unless 4 (last_good g.first (asked l)) ∷ unless 5 (records_good x.subareas) ∷ [] in
-    let p = both_pass (frame_lines g.step l) (unless 20 (rule_good g.rule) ∷ (rain_lines x.rain (asked l) ++ ends)) a in
+    let ends = unless LastRow (last_good g.first (asked l)) ∷ unless Subareas (records_good x.subareas) ∷ [] in
+    let p = both_pass (frame_lines g.step l) (unless SheetRule (rule_good g.rule) ∷ (rain_lines x.rain (asked l) ++ ends)) a in
     let q = both_pass (rain_lines x.rain (asked l)) ends p.1.1 in
     let frame = frame_ok g.step l p.0 in
     record {
       lengths = frame.0;
       step = frame.1;
-      rule = rule_ok g.rule (charge_none 19 _ 0 p.1.0);
+      rule = rule_ok g.rule (charge_none SheetRule _ 0 p.1.0);
       few = entries_few x.rain (asked l) q.0;
       raining = rain_ok x.rain (asked l) q.0;
       rises = rises_ok x.rain (asked l) q.0;
-      last = last_ok g.first (asked l) (charge_none 3 _ 0 q.1.0);
-      records = records_ok x.subareas (charge_none 4 _ 0 q.1.1.0);
+      last = last_ok g.first (asked l) (charge_none LastRow _ 0 q.1.0);
+      records = records_ok x.subareas (charge_none Subareas _ 0 q.1.1.0);
     }
 
 -- half a step within its limits
@@ -140,7 +146,7 @@ half_ok D ok = record { least = omega (arith, ok.least); most = omega (arith, ok
 -- 6 and 7 leave records within their limits
 pub limits_ok : (rule : ℕ) (s : List ℕ) → AllPass (map (over_list s) (limit_tests rule)) → AllPatches s × AllSegments s
 limits_ok rule s (six, (seven, _)) =
-    (record { each = each_passes s 5 patches_pass six }, record { each = λ i h. segments_fit (record_at s i) rule (each_passes s 6 (segments_pass rule) seven i h) })
+    (record { each = each_passes s Patches patches_pass six }, record { each = λ i h. segments_fit (record_at s i) rule (each_passes s Segments (segments_pass rule) seven i h) })
 
 -- 6 to 11 leave a list within its limits
 pub list_ok : (g : Setup) (s : List ℕ) → RecordsOk s → StepOk g.step → AllPass (list_lines g s) → ListOk g s
@@ -149,25 +155,41 @@ list_ok g s records step (six, (seven, (eight, (nine, (ten, (eleven, _)))))) =
       records = records;
       each = λ i h. record {
         whole = record_length s records i h;
-        patched = each_passes s 5 patches_pass six i h;
-        routed = segments_fit (record_at s i) g.rule (each_passes s 6 (segments_pass g.rule) seven i h);
-        timed = timing_ok g.step (time_of (record_at s i)) step.least step.most (each_passes s 9 (λ r. peak_good g.step (time_of r)) ten i h) (each_passes s 10 (λ r. weights_good g.step (time_of r)) eleven i h);
+        patched = each_passes s Patches patches_pass six i h;
+        routed = segments_fit (record_at s i) g.rule (each_passes s Segments (segments_pass g.rule) seven i h);
+        timed = timing_ok g.step (time_of (record_at s i)) step.least step.most (each_passes s Coarse (λ r. peak_good g.step (time_of r)) ten i h) (each_passes s Weights (λ r. weights_good g.step (time_of r)) eleven i h);
       };
-      area = leb-true _ _ (charge_none 7 (leb (all_area s) most_area) 0 eight);
+      area = leb-true _ _ (charge_none Area (leb (all_area s) most_area) 0 eight);
     }
 
 -- and sheet flow that runs no farther than the sheet rule lets it
 pub sheets_ok : (g : Setup) (s : List ℕ) → AllPass (list_lines g s) → SheetsOk g s
-sheets_ok g s (six, (seven, _)) = record { each = λ i h. sheets_fit (record_at s i) g.rule (each_passes s 6 (segments_pass g.rule) seven i h) }
+sheets_ok g s (six, (seven, _)) = record { each = λ i h. sheets_fit (record_at s i) g.rule (each_passes s Segments (segments_pass g.rule) seven i h) }
 
 -- 12 leaves a table within its limits
-pub table_fits : (p : List ℕ) → (unless 12 (count_good p)).number ≡ 0 → (first_of 12 (first_bad p) (rows_in p)).number ≡ 0 → TableOk p
-table_fits p some twelve = table_ok p (charge_none 11 (count_good p) 0 some) (omega (arith, first_none 11 (first_bad p) (rows_in p) twelve, scan_most (row_good p) (rows_in p) 0))
+pub table_fits : (p : List ℕ) → unless PondTable (count_good p) ≡ none → first_of PondTable (first_bad p) ≡ none → TableOk p
+table_fits p some twelve = table_ok p (charge_none PondTable (count_good p) 0 some) (first_none PondTable (first_bad p) twelve)
 
 -- and 13 a pond
 pub pond_fits : (h : ℕ) (p : List ℕ) → HalfOk h → AllPass (pond_lines h p) → PondOk h p
 pond_fits h p half (some, (twelve, (thirteen, _))) =
-    pond_ok half (table_fits p some twelve) (omega (arith, first_none 12 (first_short h p) (rows_in p) thirteen, scan_most (held_good h p) (rows_in p) 0))
+    pond_ok half (table_fits p some twelve) (first_none PondHeld (first_short h p) thirteen)
+
+-- 12, by the place that a table is refused at, then 13
+table_line : (h : ℕ) (p : List ℕ) → or_else (first_at PondTable (table_place p)) (first_of PondHeld (first_short h p)) ≡ first_refusal (pond_lines h p)
+table_line h p = go (count_good p) (first_bad p)
+  where
+    alone : (v : Line) → v ≡ first_refusal (v ∷ [])
+    alone (Ok u) = refl
+    alone (Err e) = refl
+
+    go : (b : Bool) (o : Option ℕ) → or_else (first_at PondTable (pick b (row_place o) (Some 0))) (first_of PondHeld (first_short h p)) ≡ first_refusal (unless PondTable b ∷ first_of PondTable o ∷ first_of PondHeld (first_short h p) ∷ [])
+    go true None = alone (first_of PondHeld (first_short h p))
+    go true (Some i) = refl
+    go false o = refl
+
+pub table_goes : (h : ℕ) (p : List ℕ) → none ≡ first_at PondTable (table_place p) → first_of PondHeld (first_short h p) ≡ first_refusal (pond_lines h p)
+table_goes h p q = (rw (← q) refl) ∙ table_line h p
 
 -- 1 to 11 leave what the inflow rows need
 pub basin_ok : (x : Site) (l : Rows) → AllPass (inflow_lines x l) → BasinOk x l
@@ -176,7 +198,7 @@ basin_ok x l a =
     let run = run_ok x l p.0 in
     record { run = run; list = list_ok x.setup x.subareas run.records run.step p.1 }
 
-pub inflow_ready : (x : Site) (l : Rows) → (first_refusal (inflow_lines x l)).number ≡ 0 → BasinOk x l
+pub inflow_ready : (x : Site) (l : Rows) → first_refusal (inflow_lines x l) ≡ none → BasinOk x l
 inflow_ready x l e = basin_ok x l (all_pass (inflow_lines x l) e)
 
 -- 1 to 13 leave what a study works on
@@ -187,5 +209,38 @@ site_ok x l a =
     let basin = basin_ok x l p.0 in
     record { basin = basin; pond = pond_fits h x.pond (half_ok x.setup.step basin.run.step) p.1 }
 
-pub study_ready : (x : Site) (l : Rows) → (first_refusal (check_lines x l)).number ≡ 0 → SiteOk x l
+pub study_ready : (x : Site) (l : Rows) → first_refusal (check_lines x l) ≡ none → SiteOk x l
 study_ready x l e = site_ok x l (all_pass (check_lines x l) e)
+
+-- what a function's `?` leaves, as its next call asks for it
+run_left : (x : Site) (l : Rows) → none ≡ first_refusal (run_lines x l) → RunOk x l
+run_left x l e = run_ok x l (all_pass (run_lines x l) (sym e))
+
+pub step_left : (x : Site) (l : Rows) → none ≡ first_refusal (run_lines x l) → x.setup.step ≤ most_step
+step_left x l e = (run_left x l e).step.most
+
+pub records_left : (x : Site) (l : Rows) → none ≡ first_refusal (run_lines x l) → RecordsOk x.subareas
+records_left x l e = (run_left x l e).records
+
+pub half_left : (x : Site) (l : Rows) → none ≡ first_refusal (inflow_lines x l) → HalfOk (x.setup.step / 2)
+half_left x l e = half_ok x.setup.step (inflow_ready x l (sym e)).run.step
+
+pub patches_left : (rule : ℕ) (s : List ℕ) → none ≡ first_refusal (map (over_list s) (limit_tests rule)) → AllPatches s
+patches_left rule s e = (limits_ok rule s (all_pass (map (over_list s) (limit_tests rule)) (sym e))).0
+
+pub segments_left : (rule : ℕ) (s : List ℕ) → none ≡ first_refusal (map (over_list s) (limit_tests rule)) → AllSegments s
+segments_left rule s e = (limits_ok rule s (all_pass (map (over_list s) (limit_tests rule)) (sym e))).1
+
+pub time_fits : (r : List ℕ) → RoutedOk r → TimeOk (time_of r)
+time_fits r ok = concentration_ok ok.fits
+
+-- what its `?` returns of a list's front is what the whole list says
+pub inflow_stops : (x : Site) (l : Rows) {e : Refusal Rule} → Err e ≡ first_refusal (run_lines x l) → Err e ≡ first_refusal (inflow_lines x l)
+inflow_stops x l = stops (run_lines x l) (list_lines x.setup x.subareas)
+
+pub study_stops : (g : Setup) (rain s p : List ℕ) (l : Rows) {e : Refusal Rule} → Err e ≡ first_refusal (inflow_lines (basin g rain s) l) → Err e ≡ first_refusal (check_lines (site g rain s p) l)
+study_stops g rain s p l = stops (inflow_lines (basin g rain s) l) (pond_lines (half_of g) p)
+
+-- and what its next call says is what the whole list says
+pub study_goes : (g : Setup) (rain s p : List ℕ) (l : Rows) → none ≡ first_refusal (inflow_lines (basin g rain s) l) → first_refusal (pond_lines (half_of g) p) ≡ first_refusal (check_lines (site g rain s p) l)
+study_goes g rain s p l = goes_on (inflow_lines (basin g rain s) l) (pond_lines (half_of g) p)

@@ -1,12 +1,13 @@
--- What contracts ask of a site, and proofs use; no rule of document 01 is here.
-use Rattle.std.specs.Prelude.{◌≡◌, true, List, ℕ, ◌+◌, ◌-◌, ◌≤◌, ◌<◌, length, get_or}
+-- What contracts ask of a site, and proofs use; no rule of docs/SCOPE.md is here.
+use Rattle.std.specs.Prelude.{◌≡◌, true, Result, Ok, Err, List, ℕ, ◌+◌, ◌-◌, ◌≤◌, ◌<◌, length, get_or}
 use Rattle.laws.specs.Limits.{most_rows, least_step, most_step, last_number, most_rise, most_area}
 use Rattle.travel.specs.TravelTime.{sheet_limit}
 use Rattle.travel.specs.Needs.{SheetsWithin}
 use Rattle.hydrograph.specs.Needs.{TimingOk, RainOk}
 use Rattle.pond.specs.Needs.{PondOk}
+use Rattle.refusals.specs.declared.Rule.{Rule}
 use Rattle.refusals.specs.declared.Refusal.{Refusal}
-use Rattle.refusals.specs.Refusals.{none, charge}
+use Rattle.refusals.specs.Refusals.{Line, none, charge}
 use Rattle.subarea.specs.declared.Setup.{Setup}
 use Rattle.subarea.specs.Records.{half_of, width, records_in, record_at, segments, peak_of, patches_pass}
 use Rattle.subarea.specs.Needs.{RecordsOk, RoutedOk}
@@ -14,9 +15,14 @@ use Rattle.checks.specs.Site.{Site, Rows, asked}
 use Rattle.checks.specs.Order.{ListTest, each, total, all_area}
 
 -- a test of one record r at place k
-abbrev pub over_record : List ℕ → ℕ → ListTest → Refusal
+abbrev pub over_record : List ℕ → ℕ → ListTest → Line
 over_record r k (each n good) = charge n (good r) k
 over_record r k (total n good) = none
+
+-- what an answer says of a line: none where it holds something
+abbrev pub line_of : {A : Type 0} → Result A (Refusal Rule) → Line
+line_of (Ok a) = none
+line_of (Err e) = Err e
 
 -- a step within its limits
 pub record StepOk (D : ℕ) : Type 0 where

@@ -5,44 +5,51 @@
 pub mod list;
 pub mod record;
 
-ghost use Rattle.std.specs.Prelude.{◌≡◌, ◌+◌, ◌<◌, length, leb};
+ghost use Rattle.std.specs.Prelude.{◌≡◌, ◌+◌, ◌<◌, IfOk, length};
 ghost use Rattle.laws.specs.Within.{within};
-ghost use Rattle.laws.specs.Limits.{most_rise};
 ghost use Rattle.travel.specs.TravelTime.{rule_good};
-ghost use Rattle.pond.specs.PondRows.{rows_in, count_good, first_bad, first_short};
-ghost use Rattle.pond.specs.Needs.{HalfOk, TableOk, PondOk};
+ghost use Rattle.pond.specs.PondRows.{first_short, table_place};
+ghost use Rattle.pond.specs.Needs.{HalfOk};
 ghost use Rattle.rows.specs.Figures.{first_forged};
+ghost use Rattle.refusals.specs.declared.Rule.TheVariants.{Lengths, Step, Rain, LastRow, Subareas, PondTable, PondHeld, Forged, Rise, SheetRule};
 ghost use Rattle.refusals.specs.Refusals.{unless, first_of, first_at, first_refusal};
+ghost use Rattle.checks.specs.Needs.{line_of};
 ghost use Rattle.checks.specs.Site.{site, basin, found};
-ghost use Rattle.checks.specs.Order.{lengths_good, step_good, entries_good, entry_good, first_entry, first_leap, last_good, records_good, frame_lines, rain_lines, run_lines, pond_lines, inflow_lines, check_lines};
+ghost use Rattle.checks.specs.Order.{lengths_good, step_good, entries_good, entry_good, first_entry, rise_good, first_leap, last_good, records_good, frame_lines, rain_lines, run_lines, pond_lines, inflow_lines, check_lines};
 
 use laws::limits;
-use refusals::Refusal;
+use pond::{Pond, Table};
+use refusals::{Refusal, Rule};
 use subarea::Setup;
 
 // 1
-fn lengths_check(inflow: &[u64], outflow: &[u64], storage: &[u64]) -> Refusal
-    ensures { result ≡ unless 1 (lengths_good (found inflow.now outflow.now storage.now)) }
+#[tactic(auto, unfolding(crate::specs::Order::lengths_good))]
+fn lengths_check(inflow: &[u64], outflow: &[u64], storage: &[u64]) -> Result<(), Refusal>
+    ensures { result ≡ unless Lengths (lengths_good (found inflow.now outflow.now storage.now)) }
 {
     let m = inflow.len();
-    let some = laws::both(1 <= m, m <= limits::MOST_ROWS);
-    let alike = laws::both(outflow.len() == m, laws::both(storage.len() == m, some));
-    Refusal::charge(1, alike, 0)
+    let alike = outflow.len() == m && storage.len() == m;
+    Refusal::charge(
+        Rule::Lengths,
+        alike && (1..=limits::MOST_ROWS).contains(&m),
+        0,
+    )
 }
 
 // 2
-fn step_check(step: u64) -> Refusal
-    ensures { result ≡ unless 2 (step_good step) }
+#[tactic(auto, unfolding(crate::specs::Order::step_good))]
+fn step_check(step: u64) -> Result<(), Refusal>
+    ensures { result ≡ unless Step (step_good step) }
 {
-    let within = laws::within(limits::LEAST_STEP, step, limits::MOST_STEP);
-    Refusal::charge(2, laws::both(within, step % 2 == 0), 0)
+    let within = (limits::LEAST_STEP..=limits::MOST_STEP).contains(&step);
+    Refusal::charge(Rule::Step, within && step % 2 == 0, 0)
 }
 
 // 20
-fn rule_check(rule: u64) -> Refusal
-    ensures { result ≡ unless 20 (rule_good rule) }
+fn rule_check(rule: u64) -> Result<(), Refusal>
+    ensures { result ≡ unless SheetRule (rule_good rule) }
 {
-    Refusal::charge(20, travel::rule_good(rule), 0)
+    Refusal::charge(Rule::SheetRule, travel::rule_good(rule), 0)
 }
 
 // n + 1 entries for m rows, 1 <= n <= m: tested by a difference, so that no sum wraps.
@@ -56,10 +63,11 @@ fn entries_good(entries: usize, m: usize) -> bool
 }
 
 // 3, the count
-fn entries_check(rain: &[u64], m: usize) -> Refusal
-    ensures { result ≡ unless 3 (entries_good rain.now m) }
+#[tactic(auto, unfolding(crate::specs::Order::entries_good))]
+fn entries_check(rain: &[u64], m: usize) -> Result<(), Refusal>
+    ensures { result ≡ unless Rain (entries_good rain.now m) }
 {
-    Refusal::charge(3, entries_good(rain.len(), m), 0)
+    Refusal::charge(Rule::Rain, entries_good(rain.len(), m), 0)
 }
 
 // Is rain entry i within its limits and not below the one before?
@@ -69,64 +77,47 @@ fn entry_good(rain: &[u64], i: usize) -> bool
 {
     let own = rain[i];
     if i == 0 {
-        return laws::both(own <= limits::MOST_RAIN, own == 0);
+        return own <= limits::MOST_RAIN && own == 0;
     }
-    laws::both(own <= limits::MOST_RAIN, rain[i - 1] <= own)
+    own <= limits::MOST_RAIN && rain[i - 1] <= own
 }
 
-// The first bad entry, or the number of entries.
-fn first_entry(rain: &[u64]) -> usize
+// The first bad entry.
+fn first_entry(rain: &[u64]) -> Option<usize>
     ensures { result ≡ first_entry rain.now }
 {
-    let mut i = 0;
-    while i < rain.len() {
-        if !entry_good(rain, i) {
-            return i;
-        }
-        i += 1;
-    }
-    i
+    (0..rain.len()).position(|i| !entry_good(rain, i))
 }
 
 // 3, the first bad entry
-fn entry_check(rain: &[u64]) -> Refusal
-    ensures { result ≡ first_at 3 (first_entry rain.now) (length rain.now) }
+fn entry_check(rain: &[u64]) -> Result<(), Refusal>
+    ensures { result ≡ first_at Rain (first_entry rain.now) }
 {
-    Refusal::first_at(3, first_entry(rain), rain.len())
+    refusals::refused_at_entry(Rule::Rain, first_entry(rain))
 }
 
-// Is a rain entry at most MOST_RISE above the one before? Tested by a difference, so that no sum wraps: 19 is asked of rain that
-// 3 may refuse.
-fn rise_good(before: u64, own: u64) -> bool
-    ensures { result ≡ leb own (before + most_rise) }
+// Is rain entry i at most MOST_RISE above the one before? Entry 0, which has none before it, is held to itself. Tested by a
+// difference, so that no sum wraps: 19 is asked of rain that 3 may refuse.
+fn rise_good(rain: &[u64], i: usize) -> bool
+    requires { i < length rain.now }
+    ensures { result ≡ rise_good rain.now i }
 {
-    if own < before {
-        return true;
-    }
-    own - before <= limits::MOST_RISE
+    let before = rain[i.saturating_sub(1)];
+    rain[i].saturating_sub(before) <= limits::MOST_RISE
 }
 
-// The later entry of the first leap, or the number of entries. Entry 0, which has none before it, is held to itself.
-fn first_leap(rain: &[u64]) -> usize
+// The later entry of the first leap.
+fn first_leap(rain: &[u64]) -> Option<usize>
     ensures { result ≡ first_leap rain.now }
 {
-    let mut before = 0;
-    let mut later = 0;
-    while later < rain.len() {
-        if !rise_good(rain[before], rain[later]) {
-            return later;
-        }
-        before = later;
-        later += 1;
-    }
-    later
+    (0..rain.len()).position(|i| !rise_good(rain, i))
 }
 
 // 19
-fn rise_check(rain: &[u64]) -> Refusal
-    ensures { result ≡ first_at 19 (first_leap rain.now) (length rain.now) }
+fn rise_check(rain: &[u64]) -> Result<(), Refusal>
+    ensures { result ≡ first_at Rise (first_leap rain.now) }
 {
-    Refusal::first_at(19, first_leap(rain), rain.len())
+    refusals::refused_at_entry(Rule::Rise, first_leap(rain))
 }
 
 // Is first + m - 1 a row number? Tested by a difference: the sum may pass 64 bits.
@@ -140,36 +131,46 @@ fn last_good(first: u64, m: usize) -> bool
 }
 
 // 4
-pub fn last_check(first: u64, m: usize) -> Refusal
-    ensures { result ≡ unless 4 (last_good first m) }
+pub fn last_check(first: u64, m: usize) -> Result<(), Refusal>
+    ensures { result ≡ unless LastRow (last_good first m) }
 {
-    Refusal::charge(4, last_good(first, m), 0)
+    Refusal::charge(Rule::LastRow, last_good(first, m), 0)
 }
 
 // 5
-fn records_check(subareas: &[u64]) -> Refusal
-    ensures { result ≡ unless 5 (records_good subareas.now) }
+#[tactic(auto, unfolding(crate::specs::Order::records_good))]
+fn records_check(subareas: &[u64]) -> Result<(), Refusal>
+    ensures { result ≡ unless Subareas (records_good subareas.now) }
 {
-    let n = subareas.len() / subarea::WIDTH;
-    let few = laws::both(1 <= n, n <= limits::MOST_SUBAREAS);
-    Refusal::charge(5, laws::both(subareas.len() % subarea::WIDTH == 0, few), 0)
+    let n = subarea::records(subareas).len();
+    let whole = subareas.len() % subarea::WIDTH == 0;
+    Refusal::charge(
+        Rule::Subareas,
+        whole && (1..=limits::MOST_SUBAREAS).contains(&n),
+        0,
+    )
 }
 
 // Refusals 1 and 2.
-pub fn frame_checks(step: u64, inflow: &[u64], outflow: &[u64], storage: &[u64]) -> Refusal
+pub fn frame_checks(
+    step: u64,
+    inflow: &[u64],
+    outflow: &[u64],
+    storage: &[u64],
+) -> Result<(), Refusal>
     ensures { result ≡ first_refusal (frame_lines step (found inflow.now outflow.now storage.now)) }
 {
-    lengths_check(inflow, outflow, storage).or(step_check(step))
+    lengths_check(inflow, outflow, storage)?;
+    step_check(step)
 }
 
 // Refusals 3 and 19.
-fn rain_checks(rain: &[u64], m: usize) -> Refusal
+fn rain_checks(rain: &[u64], m: usize) -> Result<(), Refusal>
     ensures { result ≡ first_refusal (rain_lines rain.now m) }
 {
-    let count = entries_check(rain, m);
-    let entry = entry_check(rain);
-    let rise = rise_check(rain);
-    count.or(entry).or(rise)
+    entries_check(rain, m)?;
+    entry_check(rain)?;
+    rise_check(rain)
 }
 
 // Refusals 1 to 5, with 20 after 2 and 19 after 3.
@@ -180,59 +181,70 @@ pub fn run_checks(
     inflow: &[u64],
     outflow: &[u64],
     storage: &[u64],
-) -> Refusal
+) -> Result<(), Refusal>
     ensures { result ≡ first_refusal (run_lines (basin setup rain.now subareas.now) (found inflow.now outflow.now storage.now)) }
 {
-    let frame = frame_checks(setup.step, inflow, outflow, storage);
-    let rule = rule_check(setup.rule);
-    let falls = rain_checks(rain, inflow.len());
-    let last = last_check(setup.first, inflow.len());
-    let records = records_check(subareas);
-    frame.or(rule).or(falls).or(last).or(records)
+    frame_checks(setup.step, inflow, outflow, storage)?;
+    rule_check(setup.rule)?;
+    rain_checks(rain, inflow.len())?;
+    last_check(setup.first, inflow.len())?;
+    records_check(subareas)
 }
 
-// 12, the count
-fn count_check(pond: &[u64]) -> Refusal
-    ensures { result ≡ unless 12 (count_good pond.now) }
+// 12: place 0 for the count, else the first bad row.
+fn table_check<'a>(pond: &'a [u64]) -> Result<Table<'a>, Refusal>
+    ensures line { line_of result ≡ first_at PondTable (table_place pond.now) }
+    ensures table { IfOk result (λ t. t.numbers.now ≡ pond.now) }
 {
-    Refusal::charge(12, pond::count_good(pond), 0)
-}
-
-// 12, the first bad row
-fn table_check(pond: &[u64]) -> Refusal
-    ensures { result ≡ first_of 12 (first_bad pond.now) (rows_in pond.now) }
-{
-    Refusal::first_of(12, pond::first_bad(pond), pond.len() / pond::ROW_WIDTH)
+    match Table::check(pond) {
+        Ok(table) => Ok(table),
+        Err(at) => Err(Refusal {
+            rule: Rule::PondTable,
+            place: at as u64,
+        }),
+    }
 }
 
 // 13
-fn held_check(half: u64, pond: &[u64]) -> Refusal
-    requires { HalfOk half × TableOk pond.now }
-    ensures { result ≡ first_of 13 (first_short half pond.now) (rows_in pond.now) }
+fn held_check<'a>(half: u64, table: &Table<'a>) -> Result<Pond<'a>, Refusal>
+    requires { HalfOk half }
+    ensures line { line_of result ≡ first_of PondHeld (first_short half table.now.numbers.now) }
+    ensures pond { IfOk result (λ v. (v.table ≡ table.now) × (v.half ≡ half)) }
 {
-    let short = pond::first_short(pond, half);
-    Refusal::first_of(13, short, pond.len() / pond::ROW_WIDTH)
+    match Pond::check(table, half) {
+        Ok(pond) => Ok(pond),
+        Err(at) => Err(Refusal {
+            rule: Rule::PondHeld,
+            place: at as u64,
+        }),
+    }
+}
+
+// Refusals 12 and 13, and the pond that they leave.
+pub fn pond_check<'a>(half: u64, pond: &'a [u64]) -> Result<Pond<'a>, Refusal>
+    requires { HalfOk half }
+    ensures line { line_of result ≡ first_refusal (pond_lines half pond.now) }
+    ensures pond { IfOk result (λ v. (v.table.numbers.now ≡ pond.now) × (v.half ≡ half)) }
+{
+    let table = table_check(pond)?;
+    held_check(half, &table)
 }
 
 // Refusals 12 and 13.
-pub fn pond_checks(half: u64, pond: &[u64]) -> Refusal
+pub fn pond_checks(half: u64, pond: &[u64]) -> Result<(), Refusal>
     requires { HalfOk half }
     ensures { result ≡ first_refusal (pond_lines half pond.now) }
 {
-    let table = count_check(pond).or(table_check(pond));
-    if table.number != 0 {
-        return table;
-    }
-    held_check(half, pond)
+    pond_check(half, pond)?;
+    Ok(())
 }
 
 // 17. Any numbers may stand in the rows.
-pub fn forged_check(half: u64, pond: &[u64], outflow: &[u64], storage: &[u64]) -> Refusal
-    requires { PondOk half pond.now × (length storage.now ≡ length outflow.now) }
-    ensures { result ≡ first_of 17 (first_forged half pond.now outflow.now storage.now) (length outflow.now) }
+pub fn forged_check(pond: &Pond<'_>, outflow: &[u64], storage: &[u64]) -> Result<(), Refusal>
+    requires { length storage.now ≡ length outflow.now }
+    ensures { result ≡ first_of Forged (first_forged pond.now.half pond.now.table.numbers.now outflow.now storage.now) }
 {
-    let forged = rows::first_forged(pond, half, outflow, storage);
-    Refusal::first_of(17, forged, outflow.len())
+    refusals::refused_at(Rule::Forged, rows::first_forged(pond, outflow, storage))
 }
 
 // Refusals 1 to 11, with 20 after 2 and 19 after 3: what a study's inflow rows need.
@@ -243,13 +255,10 @@ pub fn inflow_checks(
     inflow: &[u64],
     outflow: &[u64],
     storage: &[u64],
-) -> Refusal
+) -> Result<(), Refusal>
     ensures { result ≡ first_refusal (inflow_lines (basin setup rain.now subareas.now) (found inflow.now outflow.now storage.now)) }
 {
-    let v = run_checks(setup, rain, subareas, inflow, outflow, storage);
-    if v.number != 0 {
-        return v;
-    }
+    run_checks(setup, rain, subareas, inflow, outflow, storage)?;
     list::list_checks(setup, subareas)
 }
 
@@ -262,12 +271,9 @@ pub fn study_checks(
     inflow: &[u64],
     outflow: &[u64],
     storage: &[u64],
-) -> Refusal
+) -> Result<(), Refusal>
     ensures { result ≡ first_refusal (check_lines (site setup rain.now subareas.now pond.now) (found inflow.now outflow.now storage.now)) }
 {
-    let v = inflow_checks(setup, rain, subareas, inflow, outflow, storage);
-    if v.number != 0 {
-        return v;
-    }
+    inflow_checks(setup, rain, subareas, inflow, outflow, storage)?;
     pond_checks(setup.step / 2, pond)
 }

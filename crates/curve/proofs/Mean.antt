@@ -14,9 +14,8 @@ use Rattle.laws.proofs.Tests.{by_test}
 use Rattle.laws.proofs.Num.{below_or_not}
 use Rattle.laws.proofs.Sums.{sum_le, sum_same, sum_add, sum_times, sum_more, sum_most, sum_least}
 use Rattle.curve.specs.CurveNumbers.{class_of, patches_in, cover, soil, area, number, total_area, weighted_at, weighted, nearest, mean_tenths, composite_tenths, area_in, class_area, classes_to}
-use Rattle.curve.specs.Needs.{PatchesOk, NumberOk, CurveOk}
-use Rattle.curve.specs.declared.Classes.{Classes}
-use Rattle.curve.proofs.Class.{is_surface, is_district, is_lot, is_rural}
+use Rattle.curve.specs.Needs.{PatchesOk, NumberOk, CurveOk, classes_plus}
+use Rattle.curve.proofs.Covers.{is_surface, is_district, is_lot, is_rural}
 use Rattle.curve.proofs.Table.{cover_ok}
 
 -- a rounded mean is not below what the exact one is not below
@@ -117,7 +116,7 @@ module _ (p : List ℕ) (ok : PatchesOk p) where
   class_fits class i l = omega (arith, sum_more (area_in p class) i, class_to class (i + 1) (omega arith), ok.most)
 
 -- the class areas with one patch more
-pub classes_more : (p : List ℕ) (i : ℕ) (so : Classes) (a b c d : ℕ) → so ≡ classes_to p i → a ≡ area_in p 1 i → b ≡ area_in p 2 i → c ≡ area_in p 3 i → d ≡ area_in p 4 i
-    → ◌≡◌ {A = Classes} (record { surfaces = so.surfaces + a; districts = so.districts + b; lots = so.lots + c; rural = so.rural + d }) (classes_to p (i + 1))
-classes_more p i so a b c d es ea eb ec ed =
-    rw (es, ea, eb, ec, ed, sum_more (area_in p 1) i, sum_more (area_in p 2) i, sum_more (area_in p 3) i, sum_more (area_in p 4) i)
+pub classes_more : (p : List ℕ) (i : ℕ)
+    → classes_plus (classes_to p i) (record { surfaces = area_in p 1 i; districts = area_in p 2 i; lots = area_in p 3 i; rural = area_in p 4 i }) ≡ classes_to p (i + 1)
+classes_more p i =
+    rw (sum_more (area_in p 1) i, sum_more (area_in p 2) i, sum_more (area_in p 3) i, sum_more (area_in p 4) i)

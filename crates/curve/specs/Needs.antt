@@ -1,7 +1,11 @@
--- What contracts ask of patches and curve numbers, and proofs use; no rule of document 01 is here.
-use Rattle.std.specs.Prelude.{◌≡◌, List, ℕ, ◌*◌, ◌≤◌, ◌<◌, length}
+-- What contracts ask of patches and curve numbers, and proofs use; no rule of docs/SCOPE.md is here.
+use Rattle.std.specs.Prelude.{◌≡◌, List, ℕ, Option, Some, None, ◌+◌, ◌-◌, ◌*◌, ◌^◌, ◌≤◌, ◌<◌, length, slice_index_or, eqb}
 use Rattle.laws.specs.Limits.{most_area}
-use Rattle.curve.specs.CurveNumbers.{patch_width, most_patches, patches_in, cover, soil, area}
+use Rattle.laws.specs.Pick.{pick}
+use Rattle.curve.specs.CurveNumbers.{patch_width, most_patches, patches_in, cover, soil, area, class_of}
+use Rattle.curve.specs.declared.Classes.{Classes}
+use Rattle.curve.specs.declared.Class.{Class}
+use Rattle.curve.specs.declared.Class.TheVariants.{Surfaces, Districts, Lots, Rural}
 
 -- a place of the cover table
 pub record CoverOk (cover soil : ℕ) : Type 0 where
@@ -38,3 +42,48 @@ pub record MeanOk (weighted area : ℕ) : Type 0 where
   pub some : 1 ≤ area
   pub area_most : area ≤ 1000000000000
   pub weighted_most : weighted ≤ 1000000000000
+
+-- what stands in one patch
+abbrev pub cover_of : List ℕ → ℕ
+cover_of patch = slice_index_or patch 0 0
+
+abbrev pub soil_of : List ℕ → ℕ
+soil_of patch = slice_index_or patch 1 0
+
+abbrev pub area_of : List ℕ → ℕ
+area_of patch = slice_index_or patch 2 0
+
+-- the number of a class, 0 for none
+abbrev pub class_number : Option Class → ℕ
+class_number (Some Surfaces) = 1
+class_number (Some Districts) = 2
+class_number (Some Lots) = 3
+class_number (Some Rural) = 4
+class_number None = 0
+
+-- the class areas of one patch
+abbrev pub alone_of : List ℕ → Classes
+alone_of patch =
+    let own : ℕ → ℕ = λ class. pick (eqb (class_of (cover_of patch)) class) (area_of patch) 0 in
+    record { surfaces = own 1; districts = own 2; lots = own 3; rural = own 4 }
+
+-- class areas added and taken away, class by class, and what that asks
+abbrev pub classes_plus : Classes → Classes → Classes
+classes_plus c d =
+    record { surfaces = c.surfaces + d.surfaces; districts = c.districts + d.districts; lots = c.lots + d.lots; rural = c.rural + d.rural }
+
+abbrev pub classes_less : Classes → Classes → Classes
+classes_less c d =
+    record { surfaces = c.surfaces - d.surfaces; districts = c.districts - d.districts; lots = c.lots - d.lots; rural = c.rural - d.rural }
+
+pub record AddOk (c d : Classes) : Type 0 where
+  pub surfaces : c.surfaces + d.surfaces < 2 ^ 64
+  pub districts : c.districts + d.districts < 2 ^ 64
+  pub lots : c.lots + d.lots < 2 ^ 64
+  pub rural : c.rural + d.rural < 2 ^ 64
+
+pub record SubOk (c d : Classes) : Type 0 where
+  pub surfaces : d.surfaces ≤ c.surfaces
+  pub districts : d.districts ≤ c.districts
+  pub lots : d.lots ≤ c.lots
+  pub rural : d.rural ≤ c.rural

@@ -2,13 +2,13 @@
 // A list of patches is flat, three numbers a patch: cover code, soil group, area in hundredths of an acre.
 #![tactic(auto)]
 
-ghost use Rattle.std.specs.Prelude.{◌≡◌, ◌+◌, ◌*◌, ◌<◌, eqb};
-ghost use Rattle.laws.specs.Pick.{pick};
-ghost use Rattle.laws.specs.Scan.{scan};
-ghost use Rattle.curve.specs.CurveNumbers.{cover_number, class_of, patches_in, cover, soil, area, number, mean_tenths, ground_of, classes_to, classes_of, patch_good, patches_good};
-ghost use Rattle.curve.specs.Needs.{CoverOk, PatchesOk, MeanOk};
+ghost use Rattle.std.specs.Prelude.{◌≡◌};
+ghost use Rattle.std.specs.List.{list_all};
+ghost use Rattle.curve.specs.CurveNumbers.{cover_number, class_of, mean_tenths, ground_of, classes_of, patch_within, patches_good};
+ghost use Rattle.curve.specs.Needs.{CoverOk, PatchesOk, MeanOk, AddOk, SubOk, cover_of, soil_of, area_of, class_number, alone_of, classes_plus, classes_less};
 
 use laws::limits;
+use std::ops::{Add, Sub};
 
 // The numbers of a patch in a list, and the patches that a subarea can have.
 pub const PATCH_WIDTH: usize = 3;
@@ -41,23 +41,23 @@ const COVER: [[u8; 4]; 22] = [
     [32, 58, 72, 79],
 ];
 
-const SURFACES: u64 = 1;
-
-const DISTRICTS: u64 = 2;
-
-const LOTS: u64 = 3;
-
-const RURAL: u64 = 4;
+#[derive(Clone, Copy, Debug, PartialEq, Eq)]
+enum Class {
+    Surfaces,
+    Districts,
+    Lots,
+    Rural,
+}
 
 // What a subarea's patches come to: their area, in hundredths of an acre, and their composite curve number, in tenths.
-#[derive(Clone, Copy)]
+#[derive(Clone, Copy, Debug, PartialEq, Eq)]
 pub struct Ground {
     pub area: u64,
     pub tenths: u64,
 }
 
 // The area in each class, in hundredths of an acre.
-#[derive(Clone, Copy)]
+#[derive(Clone, Copy, Debug, Default, PartialEq, Eq)]
 pub struct Classes {
     pub surfaces: u64,
     pub districts: u64,
@@ -65,10 +65,38 @@ pub struct Classes {
     pub rural: u64,
 }
 
-fn wider(x: u8) -> u64
-    ensures { result ≡ x }
-{
-    x as u64
+impl Add for Classes {
+    type Output = Classes;
+
+    ghost can_add = { AddOk };
+
+    ghost add_gives = { λ c d r. r ≡ classes_plus c d };
+
+    fn add(self, other: Classes) -> Classes {
+        Classes {
+            surfaces: self.surfaces + other.surfaces,
+            districts: self.districts + other.districts,
+            lots: self.lots + other.lots,
+            rural: self.rural + other.rural,
+        }
+    }
+}
+
+impl Sub for Classes {
+    type Output = Classes;
+
+    ghost can_sub = { SubOk };
+
+    ghost sub_gives = { λ c d r. r ≡ classes_less c d };
+
+    fn sub(self, other: Classes) -> Classes {
+        Classes {
+            surfaces: self.surfaces - other.surfaces,
+            districts: self.districts - other.districts,
+            lots: self.lots - other.lots,
+            rural: self.rural - other.rural,
+        }
+    }
 }
 
 // The curve number of a cover code on a soil group, whole.
@@ -78,20 +106,20 @@ pub fn cover_number(cover: u64, soil: u64) -> u64
 {
     let i = (cover - 1) as usize;
     let j = (soil - 1) as usize;
-    wider(COVER[i][j])
+    u64::from(COVER[i][j])
 }
 
-// The class of a cover code, 0 for a number that is none.
-#[tactic(auto, using(crate::proofs::Class::is_none, crate::proofs::Class::is_surface, crate::proofs::Class::is_district, crate::proofs::Class::is_lot, crate::proofs::Class::is_rural, crate::proofs::Class::is_past))]
-fn class_of(cover: u64) -> u64
-    ensures { result ≡ class_of cover }
+// The class of a cover code.
+#[tactic(auto, using(crate::proofs::Covers::is_none, crate::proofs::Covers::is_surface, crate::proofs::Covers::is_district, crate::proofs::Covers::is_lot, crate::proofs::Covers::is_rural, crate::proofs::Covers::is_past))]
+fn class_of(cover: u64) -> Option<Class>
+    ensures { class_number result ≡ class_of cover }
 {
     match cover {
-        1..=8 => SURFACES,
-        9..=10 => DISTRICTS,
-        11..=16 => LOTS,
-        17..=22 => RURAL,
-        _ => 0,
+        1..=8 => Some(Class::Surfaces),
+        9..=10 => Some(Class::Districts),
+        11..=16 => Some(Class::Lots),
+        17..=22 => Some(Class::Rural),
+        _ => None,
     }
 }
 
@@ -103,48 +131,17 @@ pub fn mean_tenths(weighted: u64, area: u64) -> u64
     (2 * (10 * weighted) + area) / (2 * area)
 }
 
-fn cover_at(patches: &[u64], i: usize) -> u64
-    requires { i < patches_in patches.now }
-    ensures { result ≡ cover patches.now i }
-{
-    patches[PATCH_WIDTH * i]
-}
-
-fn soil_at(patches: &[u64], i: usize) -> u64
-    requires { i < patches_in patches.now }
-    ensures { result ≡ soil patches.now i }
-{
-    patches[PATCH_WIDTH * i + 1]
-}
-
-fn area_at(patches: &[u64], i: usize) -> u64
-    requires { i < patches_in patches.now }
-    ensures { result ≡ area patches.now i }
-{
-    patches[PATCH_WIDTH * i + 2]
-}
-
-fn number_at(patches: &[u64], i: usize) -> u64
-    requires { PatchesOk patches.now × (i < patches_in patches.now) }
-    ensures { result ≡ number patches.now i }
-{
-    cover_number(cover_at(patches, i), soil_at(patches, i))
-}
-
 // The area and the composite curve number of a subarea's patches.
 pub fn composite(patches: &[u64]) -> Ground
     requires { PatchesOk patches.now }
     ensures { result ≡ ground_of patches.now }
 {
-    let n = patches.len() / PATCH_WIDTH;
+    let (list, _) = patches.as_chunks::<PATCH_WIDTH>();
     let mut area = 0;
     let mut weighted = 0;
-    let mut i = 0;
-    while i < n {
-        let own = area_at(patches, i);
-        weighted += number_at(patches, i) * own;
+    for &[cover, soil, own] in list {
+        weighted += cover_number(cover, soil) * own;
         area += own;
-        i += 1;
     }
     Ground {
         area,
@@ -152,25 +149,18 @@ pub fn composite(patches: &[u64]) -> Ground
     }
 }
 
-// The area if it counts for a class, else 0.
-fn counted(class: u64, of: u64, area: u64) -> u64
-    ensures { result ≡ pick (eqb class of) area 0 }
+// The class areas of one patch.
+fn alone(patch: &[u64; PATCH_WIDTH]) -> Classes
+    ensures { result ≡ alone_of patch.now }
 {
-    if class == of { area } else { 0 }
-}
-
-// The class areas of the first i patches, with patch i.
-fn with_patch(so: Classes, patches: &[u64], i: usize) -> Classes
-    requires { PatchesOk patches.now × ((i < patches_in patches.now) × (so ≡ classes_to patches.now i)) }
-    ensures { result ≡ classes_to patches.now (i + 1) }
-{
-    let class = class_of(cover_at(patches, i));
-    let area = area_at(patches, i);
+    let [cover, _, area] = *patch;
+    let class = class_of(cover);
+    let own = |of: Class| if class == Some(of) { area } else { 0 };
     Classes {
-        surfaces: so.surfaces + counted(class, SURFACES, area),
-        districts: so.districts + counted(class, DISTRICTS, area),
-        lots: so.lots + counted(class, LOTS, area),
-        rural: so.rural + counted(class, RURAL, area),
+        surfaces: own(Class::Surfaces),
+        districts: own(Class::Districts),
+        lots: own(Class::Lots),
+        rural: own(Class::Rural),
     }
 }
 
@@ -179,59 +169,35 @@ pub fn class_areas(patches: &[u64]) -> Classes
     requires { PatchesOk patches.now }
     ensures { result ≡ classes_of patches.now }
 {
-    let n = patches.len() / PATCH_WIDTH;
-    let mut so = Classes {
-        surfaces: 0,
-        districts: 0,
-        lots: 0,
-        rural: 0,
-    };
-    let mut i = 0;
-    while i < n {
-        so = with_patch(so, patches, i);
-        i += 1;
+    let (list, _) = patches.as_chunks::<PATCH_WIDTH>();
+    let mut so = Classes::default();
+    for patch in list {
+        so = so + alone(patch);
     }
     so
 }
 
-fn patch_good(patches: &[u64], i: usize) -> bool
-    requires { i < patches_in patches.now }
-    ensures { result ≡ patch_good patches.now i }
+#[tactic(auto, unfolding(crate::specs::CurveNumbers::patch_within))]
+fn patch_good(patch: &[u64; PATCH_WIDTH]) -> bool
+    ensures { result ≡ patch_within (cover_of patch.now) (soil_of patch.now) (area_of patch.now) }
 {
-    laws::both(
-        laws::within(1, cover_at(patches, i), 22),
-        laws::both(
-            laws::within(1, soil_at(patches, i), 4),
-            laws::within(1, area_at(patches, i), limits::MOST_AREA),
-        ),
-    )
+    let [cover, soil, area] = *patch;
+    (1..=22).contains(&cover) && (1..=4).contains(&soil) && (1..=limits::MOST_AREA).contains(&area)
 }
 
-// The first patch out of its limits, or the number of patches.
-fn first_bad(patches: &[u64]) -> usize
-    ensures { result ≡ scan (patch_good patches.now) (patches_in patches.now) 0 }
+fn all_good(list: &[[u64; PATCH_WIDTH]]) -> bool
+    ensures { result ≡ list_all (λ patch. patch_within (cover_of patch) (soil_of patch) (area_of patch)) list.now }
 {
-    let n = patches.len() / PATCH_WIDTH;
-    let mut i = 0;
-    while i < n {
-        if !patch_good(patches, i) {
-            return i;
-        }
-        i += 1;
-    }
-    i
+    list.iter().all(patch_good)
 }
 
 // Is this a list of patches within the limits? Any numbers may stand in it.
+// travel::segments_good is its twin: one function over both widths would take a closure over arrays of any width, which the checker
+// does not cover.
+#[tactic(auto, using(crate::proofs::Patches::patches_each))]
 pub fn patches_good(patches: &[u64]) -> bool
     ensures { result ≡ patches_good patches.now }
 {
-    let n = patches.len() / PATCH_WIDTH;
-    laws::both(
-        patches.len() % PATCH_WIDTH == 0,
-        laws::both(
-            laws::within(1, n as u64, MOST_PATCHES as u64),
-            first_bad(patches) == n,
-        ),
-    )
+    let (list, rest) = patches.as_chunks::<PATCH_WIDTH>();
+    rest.is_empty() && (1..=MOST_PATCHES).contains(&list.len()) && all_good(list)
 }

@@ -3,93 +3,148 @@
 #![tactic(auto)]
 
 mod pairs;
-mod studies;
-mod texts;
 mod verdicts;
 
-ghost use Rattle.std.specs.Prelude.{◌≤◌, length};
-ghost use Rattle.laws.specs.Places.{Within};
-
+use reading::{FileError, ROWS_ROOM, Study};
 use std::env::{Env, FillError};
+use std::io;
 use std::rt::Files;
+use verdicts::Said;
 
-// The first place from `from` on that holds a byte, or the end.
-fn find(s: &[u8], from: usize, sought: u8) -> usize
-    requires { from ≤ length s.now }
-    ensures { Within from result s.now }
-{
-    let mut i = from;
-    while i < s.len() {
-        if s[i] == sought {
-            return i;
+// The studies that the program comes with.
+const KEPT: [&str; 35] = [
+    "reference.txt",
+    "largest.txt",
+    "every-cover.txt",
+    "weights-512.txt",
+    "weights-5.txt",
+    "sheet-and-channel.txt",
+    "sheet-300-rule-1.txt",
+    "rain-one-step.txt",
+    "rain-outlasts-weights.txt",
+    "weights-outlast-rain.txt",
+    "rows-end-early.txt",
+    "drizzle.txt",
+    "curves.txt",
+    "on-the-limits.txt",
+    "inflow-12000.txt",
+    "pond-refused-13.txt",
+    "pond-refused-14.txt",
+    "refused-1-rows-2001.txt",
+    "refused-2-odd-step.txt",
+    "refused-20-rule-3.txt",
+    "refused-20-before-3.txt",
+    "refused-3-one-entry.txt",
+    "refused-3-falling.txt",
+    "refused-3-before-19.txt",
+    "refused-19-slipped-decimal.txt",
+    "refused-4-row-number.txt",
+    "refused-5-subareas-17.txt",
+    "refused-6-cover-23.txt",
+    "refused-6-before-7.txt",
+    "refused-7-sheet-300-rule-2.txt",
+    "refused-7-sheet-second.txt",
+    "refused-8-area.txt",
+    "refused-9-too-slow.txt",
+    "refused-10-step-434.txt",
+    "refused-11-peak-6145.txt",
+];
+
+// Runs both engines over a study, and gives what is said of them. The pond's table is read, since it is a part of the file, and
+// neither engine takes one. Of the outflow and storage lists an engine reads the lengths alone, so that one list serves as both.
+fn compared(study: &Study) -> Said {
+    let rows = study.rows;
+    let mut fast = [0; ROWS_ROOM];
+    let mut slow = [0; ROWS_ROOM];
+    let spare = [0; ROWS_ROOM];
+    let verdict = engines::compare(
+        study.setup,
+        &study.rain,
+        study.subareas(),
+        &mut fast[..rows],
+        &mut slow[..rows],
+        &spare[..rows],
+        &spare[..rows],
+    );
+    Said::of(verdict, &fast[..rows])
+}
+
+fn print_fault(err: &impl Print, name: &[u8], error: FileError) -> io::Result<()> {
+    err.write_all(name)?;
+    match error {
+        FileError::Fault(fault) => println!(err;
+            ": line {}: not in the format of a study's file; ./run FILE says what is wrong there",
+            fault.line
+        ),
+        _ => println!(err; ": {error}"),
+    }
+}
+
+// Works the study in a file, and tells whether the engines differ. A file that is no study's has its line on standard error, and
+// is none that differs. Nothing can be told where a stream takes no more, and the other studies are worked all the same.
+fn differs(rt: &impl Files, out: &impl Print, err: &impl Print, name: &[u8]) -> bool {
+    match reading::load(rt, name) {
+        Ok(study) => {
+            let said = compared(&study);
+            let _ = verdicts::print(out, name, &said);
+            said.differs()
         }
-        i += 1;
-    }
-    i
-}
-
-// The studies in the files of a list of names, which commas part. Gives how many differ.
-fn listed(rt: &impl Files, names: &[u8]) -> u64 {
-    let mut differ = 0;
-    let mut at = 0;
-    while at < names.len() {
-        let e = find(names, at, b',');
-        differ += studies::opened(rt, &names[at..e]);
-        at = e + 1;
-    }
-    differ
-}
-
-// The studies in the files that n - 1 arguments name; argument 0 is the program's own name. Gives how many differ.
-fn given(rt: &(impl Env + Files), n: usize) -> u64 {
-    let mut differ = 0;
-    let mut i = 1;
-    while i < n {
-        differ += studies::named(rt, i);
-        i += 1;
-    }
-    differ
-}
-
-// The studies that the program comes with, and the pairs that differ.
-fn kept(rt: &impl Files) -> u64 {
-    let names =
-        b"reference.txt,largest.txt,every-cover.txt,weights-512.txt,weights-5.txt,sheet-and-channel.txt,\
-        sheet-300-rule-1.txt,rain-one-step.txt,rain-outlasts-weights.txt,weights-outlast-rain.txt,\
-        rows-end-early.txt,drizzle.txt,curves.txt,on-the-limits.txt,inflow-12000.txt,pond-refused-13.txt,\
-        pond-refused-14.txt,refused-1-rows-2001.txt,refused-2-odd-step.txt,refused-20-rule-3.txt,\
-        refused-20-before-3.txt,refused-3-one-entry.txt,refused-3-falling.txt,refused-3-before-19.txt,\
-        refused-19-slipped-decimal.txt,refused-4-row-number.txt,refused-5-subareas-17.txt,refused-6-cover-23.txt,\
-        refused-6-before-7.txt,refused-7-sheet-300-rule-2.txt,refused-7-sheet-second.txt,refused-8-area.txt,\
-        refused-9-too-slow.txt,refused-10-step-434.txt,refused-11-peak-6145.txt";
-    let differ = listed(rt, names);
-    pairs::all();
-    differ
-}
-
-// Is there an argument i? Argument 0 is the program's own name.
-fn is_given(rt: &impl Env, i: usize) -> bool {
-    match rt.arg(i, &mut []) {
-        Err(FillError::NotPresent) => false,
-        _ => true,
-    }
-}
-
-// How many arguments there are, the program's own name among them.
-fn arg_count(rt: &impl Env) -> usize {
-    for i in 0..usize::MAX {
-        if !is_given(rt, i) {
-            return i;
+        Err(error) => {
+            let _ = print_fault(err, name, error);
+            false
         }
     }
-    usize::MAX
 }
 
-// A line on standard error is what the status is told by.
-fn main(rt: HostRuntime) {
-    let n = arg_count(&rt);
-    let differ = if n > 1 { given(&rt, n) } else { kept(&rt) };
+// The studies that the program comes with, and the pairs that differ. Gives how many studies differ.
+fn kept(rt: &impl Files, out: &impl Print, err: &impl Print) -> u64 {
+    let mut differ = 0u64;
+    for name in KEPT {
+        if differs(rt, out, err, name.as_bytes()) {
+            differ = differ.saturating_add(1);
+        }
+    }
+    let _ = pairs::print_all(out);
+    differ
+}
+
+// The studies in the files that the arguments name; argument 0 is the program's own name. Gives how many differ.
+fn given<R: Env + Files>(rt: &R, out: &impl Print, err: &impl Print) -> u64 {
+    let mut path = [0u8; 4096];
+    let mut differ = 0u64;
+    for i in 1..usize::MAX {
+        match rt.arg(i, &mut path) {
+            Err(FillError::NotPresent) => break,
+            Err(FillError::TooLong) | Ok(0) => {
+                let _ = println!(err; "argument {i}: empty, or too long for a file's name");
+            }
+            Ok(n) => {
+                if differs(rt, out, err, &path[..n]) {
+                    differ = differ.saturating_add(1);
+                }
+            }
+        }
+    }
+    differ
+}
+
+fn has_arguments(rt: &impl Env) -> bool {
+    !matches!(rt.arg(1, &mut []), Err(FillError::NotPresent))
+}
+
+fn run<R: Env + Files>(rt: &R, out: &impl Print, err: &impl Print) {
+    let differ = if has_arguments(rt) {
+        given(rt, out, err)
+    } else {
+        kept(rt, out, err)
+    };
     if differ > 0 {
-        texts::fault(texts::DIFFERING, &[differ]);
+        let _ = println!(err; "studies that differ: {differ}");
     }
+}
+
+// What is wrong is told by a line on standard error, and the status is 0 also then: where the program is run by tools/program,
+// such a line makes it 1.
+fn main(rt: HostRuntime) {
+    run(&rt, &rt.stdout(), &rt.stderr());
 }

@@ -1,42 +1,45 @@
 // Kept lists of rows, and kept refusals, that differ: they show that the desk can say something else than `same`. No engine
 // made them, and they count as no study.
-use crate::{texts, verdicts};
+use crate::verdicts;
+use crate::verdicts::Said;
 use engines::Verdict;
-use refusals::Refusal;
+use refusals::{Refusal, Rule};
+use std::io;
 
 // The kept list beside another.
-fn beside(label: u64, other: &[u64]) {
-    let list = [0u64, 120, 480, 310, 90];
-    let row = engines::first_differing(&list, other);
+fn beside(other: &[u64]) -> Said {
+    let list = [0, 120, 480, 310, 90];
     let verdict = Verdict {
-        fast: Refusal::none(),
-        slow: Refusal::none(),
-        row,
+        fast: Ok(()),
+        slow: Ok(()),
+        row: engines::first_differing(&list, other),
     };
-    texts::verdict(label, &[]);
-    verdicts::told(verdict, other);
+    Said::of(verdict, other)
 }
 
-fn refused_apart() {
+fn refused_apart() -> Said {
     let verdict = Verdict {
-        fast: Refusal {
-            number: 9,
+        fast: Err(Refusal {
+            rule: Rule::Concentration,
             place: 2,
-        },
-        slow: Refusal {
-            number: 11,
+        }),
+        slow: Err(Refusal {
+            rule: Rule::Weights,
             place: 1,
-        },
-        row: 0,
+        }),
+        row: None,
     };
-    texts::verdict(texts::PAIR_REFUSALS, &[]);
-    verdicts::told(verdict, &[]);
+    Said::of(verdict, &[])
 }
 
-pub(crate) fn all() {
-    beside(texts::PAIR_FIRST, &[1, 120, 480, 310, 90]);
-    beside(texts::PAIR_MIDDLE, &[0, 120, 481, 310, 90]);
-    beside(texts::PAIR_LAST, &[0, 120, 480, 310, 89]);
-    beside(texts::PAIR_LONGER, &[0, 120, 480, 310, 90, 0]);
-    refused_apart();
+pub(crate) fn print_all(out: &impl Print) -> io::Result<()> {
+    let first = beside(&[1, 120, 480, 310, 90]);
+    verdicts::print(out, b"two kept lists, the first row differs", &first)?;
+    let middle = beside(&[0, 120, 481, 310, 90]);
+    verdicts::print(out, b"two kept lists, a middle row differs", &middle)?;
+    let last = beside(&[0, 120, 480, 310, 89]);
+    verdicts::print(out, b"two kept lists, the last row differs", &last)?;
+    let longer = beside(&[0, 120, 480, 310, 90, 0]);
+    verdicts::print(out, b"two kept lists, one longer by a row", &longer)?;
+    verdicts::print(out, b"two kept refusals that differ", &refused_apart())
 }

@@ -1,54 +1,76 @@
 // What the desk says of two answers: that they are the same, the first row that differs, or both refusals.
-ghost use Rattle.std.specs.Prelude.{◌≤◌};
-
-use crate::texts;
 use engines::Verdict;
-use laws::both;
+use reading::Thousandths;
 use refusals::Refusal;
+use std::{fmt, io};
 
-fn larger(a: u64, b: u64) -> u64 {
-    if a < b { b } else { a }
+// The column in which verdicts start, and the blanks that stand before one at least.
+const COLUMN: usize = 40;
+
+const LEAST_GAP: usize = 2;
+
+#[derive(Clone, Copy)]
+pub(crate) enum Said {
+    Same {
+        rows: usize,
+        greatest: u64,
+    },
+    BothRefuse(Refusal),
+    Row(usize),
+    Refusals {
+        fast: Result<(), Refusal>,
+        slow: Result<(), Refusal>,
+    },
 }
 
-// A figure by which rows of zeros can be told from others.
-fn greatest(rows: &[u64]) -> u64 {
-    let mut most = 0;
-    let mut k = 0;
-    while k < rows.len() {
-        most = larger(most, rows[k]);
-        k += 1;
+impl Said {
+    // Of rows that the first engine left. Where the refusals differ, no row of a refused study says more.
+    pub(crate) fn of(verdict: Verdict, rows: &[u64]) -> Said {
+        let Verdict { fast, slow, row } = verdict;
+        match (fast, row) {
+            _ if fast != slow => Said::Refusals { fast, slow },
+            (_, Some(row)) => Said::Row(row),
+            (Err(refusal), None) => Said::BothRefuse(refusal),
+            (Ok(()), None) => Said::Same {
+                rows: rows.len(),
+                greatest: rows.iter().copied().max().unwrap_or(0),
+            },
+        }
     }
-    most
-}
 
-fn same(refusal: Refusal, rows: &[u64]) {
-    if refusal.number == 0 {
-        texts::verdict(texts::SAME, &[rows.len() as u64, greatest(rows)]);
-    } else {
-        texts::verdict(texts::REFUSED, &[refusal.number, refusal.place]);
-    }
-}
-
-// Where the refusals differ, no row of a refused study says more.
-fn differing(own: Verdict) {
-    let a = own.fast;
-    let b = own.slow;
-    if both(a.number == b.number, a.place == b.place) {
-        texts::verdict(texts::ROW, &[own.row as u64]);
-    } else {
-        texts::verdict(texts::REFUSALS, &[a.number, a.place, b.number, b.place]);
+    pub(crate) fn differs(&self) -> bool {
+        match self {
+            Said::Same { .. } | Said::BothRefuse(_) => false,
+            Said::Row(_) | Said::Refusals { .. } => true,
+        }
     }
 }
 
-// Prints what is to be said, of rows that the first engine left, and gives 1 where the two differ, else 0.
-pub(crate) fn told(own: Verdict, rows: &[u64]) -> u64
-    ensures { result ≤ 1 }
-{
-    if engines::agree(own) {
-        same(own.fast, rows);
-        0
-    } else {
-        differing(own);
-        1
+impl fmt::Display for Said {
+    fn fmt<W: fmt::Write>(&self, f: &mut fmt::Formatter<W>) -> fmt::Result {
+        match self {
+            Said::Same { rows, greatest } => {
+                let greatest = Thousandths(*greatest);
+                write!(f, "same (rows {rows}, greatest inflow {greatest} cf)")
+            }
+            Said::BothRefuse(refusal) => write!(f, "same (both refuse: {refusal})"),
+            Said::Row(row) => write!(f, "row {row}"),
+            Said::Refusals { fast, slow } => {
+                let (number, place) = refusals::told(*fast);
+                let (other, elsewhere) = refusals::told(*slow);
+                write!(
+                    f,
+                    "refusals differ (number {number}, place {place} by the first engine; number {other}, place {elsewhere} by the textbook's)"
+                )
+            }
+        }
     }
+}
+
+// What is said, behind the name of what it is said of. The column counts bytes.
+pub(crate) fn print(out: &impl Print, name: &[u8], said: &Said) -> io::Result<()> {
+    let blanks = [b' '; COLUMN];
+    out.write_all(name)?;
+    out.write_all(&blanks[name.len().min(COLUMN - LEAST_GAP)..])?;
+    println!(out; "{said}")
 }

@@ -20,7 +20,8 @@ use Rattle.sums.specs.Needs.{NumbersOk}
 use Rattle.parts.specs.Needs.{part_by}
 use Rattle.rows.specs.Needs.{InflowOk}
 use Rattle.rows.specs.Routing.{total}
-use Rattle.rows.specs.Figures.{at, stands_good, first_forged}
+use Rattle.rows.specs.Figures.{at, first_forged}
+use Rattle.std.specs.Prelude.{None}
 use Rattle.rows.proofs.Told.{rows_ok}
 use Rattle.rows.proofs.Totals.{total_sum}
 use Rattle.checks.specs.Site.{Site, Rows}
@@ -30,15 +31,16 @@ use Rattle.subarea.proofs.Subareas.{patches_fit}
 use Rattle.inflow.specs.Inflow.{inflow_at, inflow_rows}
 use Rattle.inflow.specs.Needs.{numbers_of, most_volume}
 use Rattle.checks.specs.Needs.{RecordOk, ListOk}
+use Rattle.refusals.specs.declared.Rule.TheVariants.{InflowRow, Forged}
 use Rattle.refusals.specs.Refusals.{AllPass}
-use Rattle.refusals.proofs.Orders.{first_none}
+use Rattle.refusals.proofs.Orders.{first_none, stopped_none}
 use Rattle.inflow.proofs.Inflows.{part_most, inflow_most}
 use Rattle.alter.specs.Altering.{old_record, old_part, fresh_part, swapped, new_inflow}
 use Rattle.alter.specs.Needs.{PlaceOk, PartsFit, GroundOk}
 use Rattle.alter.proofs.Swapping.{swapped_length, swapped_at, part_in}
 use Rattle.fitting.specs.declared.Fit.{Fit}
 use Rattle.fitting.specs.Fits.{inflow_fits, first_unfit}
-use Rattle.fitting.specs.Needs.{fit_of}
+use Rattle.fitting.specs.Needs.{unfit_by, fit_of}
 use Rattle.fitting.proofs.Fits.{fits, fit, fit_found, fit_small}
 use Rattle.rewrite.specs.Needs.{new_by, SwapFit}
 use Rattle.edit.specs.Needs.{found_lines, EditOk}
@@ -103,11 +105,10 @@ module _ (x : Site) (l : Rows) (k : ℕ) (r : List ℕ) (ok : EditOk x l k r) wh
 
   module _ (p : AllPass (found_lines x l k)) where
     unfit_none : first_unfit (old_part x k) l.inflow ≡ length l.inflow
-    unfit_none = omega (arith, first_none 15 (first_unfit (old_part x k) vs) (length vs) p.0, scan_most (λ i. inflow_fits (old_part x k (i + 1)) (at vs i)) (length vs) 0)
+    unfit_none = omega (arith, stopped_none (first_unfit (old_part x k) vs) (length vs) (first_none InflowRow _ p.0), scan_most (λ i. inflow_fits (old_part x k (i + 1)) (at vs i)) (length vs) 0)
 
-    forged_none : first_forged (half_of x.setup) x.pond l.outflow l.storage ≡ length l.outflow
-    forged_none =
-        omega (arith, first_none 16 (first_forged (half_of x.setup) x.pond l.outflow l.storage) (length l.outflow) p.1.0, scan_most (λ i. stands_good (half_of x.setup) x.pond (at l.outflow i) (at l.storage i)) (length l.outflow) 0)
+    forged_none : first_forged (half_of x.setup) x.pond l.outflow l.storage ≡ None
+    forged_none = first_none Forged (first_forged (half_of x.setup) x.pond l.outflow l.storage) p.1.0
 
     -- by the numbers of the old record and of the fresh one
     module _ {old own : Numbers} (was : old ≡ numbers_of x.setup (old_record x.subareas k)) (is : own ≡ numbers_of x.setup r) where
@@ -137,7 +138,7 @@ module _ (x : Site) (l : Rows) (k : ℕ) (r : List ℕ) (ok : EditOk x l k r) wh
           let fresh = numbers_ok x.setup r ok.fresh ok.area {own = numbers_of x.setup r} refl in
           let most = volume_last (curve_tenths r) x.rain fresh.curved ok.work.basin.run.raining x.setup.step (peak_of x.setup r) fresh.timed (area_of r) (length vs) in
           let sums = parts_sum (curve_tenths r) x.rain fresh.curved ok.work.basin.run.raining x.setup.step (peak_of x.setup r) fresh.timed (area_of r) (length vs) in
-          let small = fit_small (λ i. old_part x k (i + 1)) vs (fit_of (old_part x k) vs).left (fit_of (old_part x k) vs).bad (fit_found (λ i. old_part x k (i + 1)) vs) in
+          let small = fit_small (λ i. old_part x k (i + 1)) vs (fit_of (old_part x k) vs).left (unfit_by (λ i. old_part x k (i + 1)) vs) (fit_found (λ i. old_part x k (i + 1)) vs) in
           rw (e, f, was, is) (
             omega (arith, small, unfit_none, ok.work.basin.run.lengths.most, volume_room x.setup x.rain r ok.work.basin.run.raining ok.fresh, ok.area),
             omega (arith, left_all (old_part x k) vs unfit_none (fresh_part x r), sums, most),

@@ -1,74 +1,45 @@
--- The refusal of an edit's answer is the first line of `edit_lines`, document 01's order, that refuses; an answer's number, place and values follow from it. Assumes nothing.
-use mathlib.Core.Path.{◌≡◌, refl, sym, ap, ◌∙◌}
-use mathlib.Core.Bool.{Bool, true, false}
-use mathlib.Core.List.{List, [], ◌∷◌, ◌++◌}
+-- The refusal of an edit's answer is the first line of `edit_lines`, docs/SCOPE.md's order, that refuses; an answer's refusal and values follow from it. Assumes nothing.
+use mathlib.Core.Path.{◌≡◌, refl, ap, ◌∙◌}
+use mathlib.Core.List.{List, ◌∷◌, ◌++◌}
 use Prim.Native.Nat.{ℕ, ◌+◌, ◌<◌}
 use native.Mathlib.Omega.{arith}
-use borrow.Author.Tests.{eqb-true}
-use lib.Dec.{eqb}
-use lib.ListN.{length, drop}
-use Rattle.laws.specs.Pick.{pick}
-use Rattle.rows.specs.Routing.{over_row, state_before}
+use lib.ListN.{length}
+use Rattle.std.specs.Prelude.{Ok, Err}
 use Rattle.checks.specs.Site.{Site, Rows}
-use Rattle.refusals.specs.declared.Refusal.{Refusal}
-use Rattle.refusals.specs.Refusals.{refuse, none, unless, AllPass, First}
+use Rattle.refusals.specs.declared.Rule.TheVariants.{Place}
+use Rattle.refusals.specs.Refusals.{Line, none, unless, answer, after, AllPass, First}
 use Rattle.checks.specs.Order.{run_lines, list_lines, pond_lines}
 use Rattle.subarea.specs.Records.{half_of}
-use Rattle.refusals.proofs.Orders.{all_pass, both_pass, last_is, first_there}
+use Rattle.refusals.proofs.Orders.{all_pass, both_pass, first_there}
 use Rattle.checks.specs.Needs.{RuleOk, RisesOk, RunOk, SheetsOk}
 use Rattle.checks.proofs.Ready.{run_ok, sheets_ok}
-use Rattle.alter.specs.Altering.{altered, new_inflow_of, first_changed, place_good, edit_check_lines}
-use Rattle.edit.specs.declared.EditAnswer.{EditAnswer}
-use Rattle.edit.specs.declared.EditAnswer.TheVariants.{Refused, Done}
-use Rattle.edit.specs.Edit.{over_from, row_lines, edit_lines, edit_refusal, edit_done, edit_answer, edit_refusal_in, edit_values_in, edit_nothing, edit_values}
-use Rattle.edit.specs.Needs.{found_lines}
-
--- 14 that passes is none
-module _ (h : ℕ) (p : List ℕ) (l : Rows) (ws : List ℕ) where
-  abbrev over : ℕ
-  over = over_row h p (state_before l.outflow l.storage (first_changed l.inflow ws)) (drop (first_changed l.inflow ws) ws)
-
-  over_none : (over_from h p l ws).number ≡ 0 → over_from h p l ws ≡ none
-  unfolding over_from
-  over_none e = go (eqb over 0) e
-    where
-      go : (b : Bool) → (pick b none (refuse 14 (first_changed l.inflow ws + over))).number ≡ 0 → pick b none (refuse 14 (first_changed l.inflow ws + over)) ≡ none
-      go true q = refl
-      go false q = absurd (omega arith)
+use Rattle.alter.specs.Altering.{altered, place_good}
+use Rattle.edit.specs.Edit.{EditAnswer, row_lines, edit_lines, edit_refusal, edit_done, edit_answer, edit_refusal_in, edit_values_in, edit_nothing, edit_values}
 
 module _ (x : Site) (l : Rows) (k : ℕ) (r : List ℕ) where
-  -- refused: the refusal stands in document 01's list, and every line before it passes
-  pub edit_order : ((edit_refusal x l k r).number ≡ 0 → ⊥) → First (edit_lines x l k r) (edit_refusal x l k r)
+  -- refused: the refusal stands in docs/SCOPE.md's list, and every line before it passes
+  pub edit_order : (edit_refusal x l k r ≡ none → ⊥) → First (edit_lines x l k r) (edit_refusal x l k r)
   unfolding edit_refusal
   edit_order n = first_there (edit_lines x l k r) n
 
-  module _ (done : (edit_refusal x l k r).number ≡ 0) where
+  module _ (done : edit_refusal x l k r ≡ none) where
     -- accepted: every line passes
     pub edit_passes : AllPass (edit_lines x l k r)
     unfolding edit_refusal
     edit_passes = all_pass (edit_lines x l k r) done
 
-    -- number and place are 0
-    refused_none : none ≡ edit_refusal x l k r
-    unfolding edit_refusal
-    refused_none =
-        let fore = edit_check_lines x l k r ++ found_lines x l k in
-        let ws = new_inflow_of x l k r in
-        let over = over_from (half_of x.setup) x.pond l ws in
-        sym (last_is fore over done ∙ over_none (half_of x.setup) x.pond l ws (both_pass fore (over ∷ []) edit_passes).1.0)
-
     -- 6 to 11 on the list as it stands, then on the altered list, and what follows them
-    abbrev stands : List Refusal
+    abbrev stands : List Line
     stands = list_lines x.setup x.subareas
 
-    abbrev alters : List Refusal
+    abbrev alters : List Line
     alters = list_lines x.setup (altered x.subareas k r)
 
-    abbrev after_lists : List Refusal
+    abbrev after_lists : List Line
     after_lists = pond_lines (half_of x.setup) x.pond ++ row_lines x l k r
 
-    parted : AllPass (run_lines x l) × AllPass (unless 15 (place_good x.subareas k) ∷ (stands ++ (alters ++ after_lists)))
-    parted = both_pass (run_lines x l) (unless 15 (place_good x.subareas k) ∷ (stands ++ (alters ++ after_lists))) edit_passes
+    parted : AllPass (run_lines x l) × AllPass (unless Place (place_good x.subareas k) ∷ (stands ++ (alters ++ after_lists)))
+    parted = both_pass (run_lines x l) (unless Place (place_good x.subareas k) ∷ (stands ++ (alters ++ after_lists))) edit_passes
 
     lists : AllPass stands × AllPass (alters ++ after_lists)
     lists = both_pass stands (alters ++ after_lists) parted.1.1
@@ -105,24 +76,24 @@ module _ (x : Site) (l : Rows) (k : ℕ) (r : List ℕ) where
     pub edit_rises : RisesOk x.rain
     edit_rises = accepted.rises
 
-  -- an answer's number and place are those of the refusal, or 0 and 0 when done
+  -- the refusal in an answer is the edit's, or none when done
   pub edit_refusal_lem : edit_refusal_in (edit_answer x l k r) ≡ edit_refusal x l k r
   unfolding edit_answer
-  edit_refusal_lem = go (eqb (edit_refusal x l k r).number 0) refl
+  edit_refusal_lem = go (edit_refusal x l k r)
     where
-      go : (b : Bool) → eqb (edit_refusal x l k r).number 0 ≡ b → edit_refusal_in (pick b (Done (edit_done x l k r)) (Refused (edit_refusal x l k r))) ≡ edit_refusal x l k r
-      go true e = refused_none (eqb-true (edit_refusal x l k r).number 0 e)
-      go false e = refl
+      go : (v : Line) → edit_refusal_in (answer v (edit_done x l k r)) ≡ v
+      go (Ok u) = refl
+      go (Err e) = refl
 
-  -- and its values are those, 0 when refused
+  -- its values are those of the edit, every one 0 when refused
   pub edit_values_lem : edit_values_in (edit_answer x l k r) ≡ edit_values x l k r
   unfolding edit_answer edit_values
-  edit_values_lem = go (eqb (edit_refusal x l k r).number 0)
+  edit_values_lem = go (edit_refusal x l k r)
     where
-      go : (b : Bool) → edit_values_in (pick b (Done (edit_done x l k r)) (Refused (edit_refusal x l k r))) ≡ pick b (edit_done x l k r) edit_nothing
-      go true = refl
-      go false = refl
+      go : (v : Line) → edit_values_in (answer v (edit_done x l k r)) ≡ after v (edit_done x l k r) edit_nothing
+      go (Ok u) = refl
+      go (Err e) = refl
 
-  -- so an answer that is this one has this number and place, and these values
+  -- so an answer that is this one has this refusal, and these values
   pub answer_is : {y : EditAnswer} → y ≡ edit_answer x l k r → (edit_refusal_in y ≡ edit_refusal x l k r) × (edit_values_in y ≡ edit_values x l k r)
   answer_is q = (ap edit_refusal_in q ∙ edit_refusal_lem, ap edit_values_in q ∙ edit_values_lem)

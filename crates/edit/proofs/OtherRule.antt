@@ -3,11 +3,11 @@ use mathlib.Core.Path.{◌≡◌, sym, ◌∙◌, subst}
 use mathlib.Core.List.{List, [], ◌∷◌}
 use Prim.Native.Nat.{ℕ, ◌≤◌}
 use lib.ListN.{length}
-use Rattle.refusals.proofs.Orders.{both_pass, pass_both, pass_none, none_new}
+use Rattle.refusals.proofs.Orders.{both_pass, pass_both, pass_none, passed_answer}
 use Rattle.subarea.specs.Records.{width, records_in, half_of}
 use Rattle.checks.specs.Site.{Site, Rows, with_rule}
 use Rattle.checks.specs.Order.{run_lines, list_lines, pond_lines, inflow_lines, check_lines}
-use Rattle.study.specs.declared.StudyAnswer.TheVariants as Study
+use Rattle.refusals.specs.Refusals.{none}
 use Rattle.study.specs.Study.{over_of, study_lines, study_refusal, study_answer, study_rows, study_figures}
 use Rattle.study.proofs.Order.{study_passes}
 use Rattle.study.proofs.Rules.{rows_by_either}
@@ -20,9 +20,9 @@ module _ {x : Site} {l : Rows} (so : Standing x l) (rule k : ℕ) (r : List ℕ)
   abbrev y : Site
   y = with_rule x rule
 
-  module _ (done : (edit_refusal y l k r).number ≡ 0) where
+  module _ (done : edit_refusal y l k r ≡ none) where
     -- 1 to 13 pass by that rule, and 14 does as it did
-    study_too : (study_refusal y l).number ≡ 0
+    study_too : study_refusal y l ≡ none
     unfolding study_refusal
     study_too =
         let inflow = pass_both (run_lines y l) (list_lines y.setup y.subareas) (run_passes y l k r done) (list_passes y l k r done) in
@@ -34,7 +34,7 @@ module _ {x : Site} {l : Rows} (so : Standing x l) (rule k : ℕ) (r : List ℕ)
     pub stand_by : Standing y l
     unfolding study_answer
     stand_by =
-        let answer = sym (none_new (study_refusal y l) study_too (Study.Done (study_figures y l)) (Study.Refused (study_refusal y l))) in
+        let answer = sym (passed_answer (sym study_too) (study_figures y l)) in
         let rows : study_rows y l ≡ l = rows_by_either x l rule (chain so).done study_too ∙ sym (chain so).rows in
         subst (λ (z : Rows). Standing y z) rows (studied y l (study_figures y l) answer)
 

@@ -5,7 +5,7 @@ use Prim.Native.Nat.{ℕ}
 use lib.ListN.{length}
 use Rattle.checks.specs.Site.{Site, Rows}
 use Rattle.subarea.specs.Records.{half_of, width}
-use Rattle.refusals.specs.Refusals.{first_refusal}
+use Rattle.refusals.specs.Refusals.{none, first_refusal}
 use Rattle.checks.specs.Order.{list_lines, pond_lines}
 use Rattle.refusals.proofs.Orders.{all_pass, both_pass}
 use Rattle.checks.proofs.Ready.{half_ok, list_ok, pond_fits}
@@ -14,7 +14,7 @@ use Rattle.alter.proofs.OnlyFresh.{fresh_ok}
 use Rattle.alter.proofs.Ready.{place_lines, place_ready}
 use Rattle.edit.specs.Needs.{EditOk}
 
-pub edit_ok : (x : Site) (l : Rows) (k : ℕ) (r : List ℕ) → length r ≡ width → (first_refusal (edit_check_lines x l k r)).number ≡ 0 → EditOk x l k r
+pub edit_ok : (x : Site) (l : Rows) (k : ℕ) (r : List ℕ) → length r ≡ width → first_refusal (edit_check_lines x l k r) ≡ none → EditOk x l k r
 edit_ok x l k r w e =
     let stands = list_lines x.setup x.subareas in
     let alters = list_lines x.setup (altered x.subareas k r) in

@@ -1,28 +1,25 @@
 -- An edit of the rows of a done study is a study of the altered site. Assumes nothing.
 use mathlib.Core.Path.{◌≡◌, refl, sym, ap, ◌∙◌, subst}
-use mathlib.Core.Bool.{Bool, true, false}
 use mathlib.Core.Logic.{⊎_elim}
 use mathlib.Core.List.{List, [], ◌∷◌, ◌++◌}
 use Prim.Native.Nat.{ℕ, ◌+◌, ◌≤◌, ◌<◌}
 use native.Mathlib.Omega.{arith}
-use borrow.Author.Tests.{eqb-true, ne_eqb, lt-ltb, le-ltb}
-use lib.Dec.{eqb}
+use borrow.Author.Tests.{lt-ltb, le-ltb}
 use lib.ListN.{length, take, drop, take-append-drop, length-drop}
 use lib.Seq.{length-take-le}
-use Rattle.laws.specs.Pick.{pick}
+use Rattle.std.specs.Prelude.{Ok, Err}
 use Rattle.laws.proofs.Num.{below_or_not}
 use Rattle.laws.proofs.Tests.{keeps}
 use Rattle.pond.specs.PondRows.{empty}
 use Rattle.pond.specs.declared.State.{State}
 use Rattle.rows.specs.Routing.{end_of, outflow_of, storage_of, outflows, storages, passed, over_row, state_before}
 use Rattle.rows.proofs.Prefix.{passed_append, passed_take}
-use Rattle.rows.proofs.Columns.{column_length, before_is, edit_is_new}
+use Rattle.rows.proofs.Columns.{before_is, edit_is_new}
 use Rattle.rows.proofs.Told.{over_none, routed_pass}
-use Rattle.refusals.specs.declared.Refusal.{Refusal}
-use Rattle.study.specs.declared.StudyAnswer.TheVariants as Study
+use Rattle.refusals.specs.declared.Rule.TheVariants.{Place}
 use Rattle.checks.specs.Site.{Site, Rows}
 use Rattle.subarea.specs.Records.{width, records_in, half_of}
-use Rattle.refusals.specs.Refusals.{refuse, none, unless, first_refusal, after, AllPass}
+use Rattle.refusals.specs.Refusals.{Line, none, unless, first_refusal, answer, after, AllPass}
 use Rattle.checks.specs.Order.{records_good, run_lines, list_lines, pond_lines, check_lines, forged_line}
 use Rattle.study.specs.Study.{over_check, over_of, study_refusal, study_answer, study_rows, classes_all, figures_with, figures_all, routed}
 use Rattle.inflow.specs.Inflow.{inflow_at, inflow_of}
@@ -30,11 +27,11 @@ use Rattle.checks.specs.Needs.{SiteOk}
 use Rattle.refusals.proofs.Orders.{both_pass, none_new, past, skipped}
 use Rattle.checks.proofs.Ready.{site_ok}
 use Rattle.study.proofs.Order.{study_passes}
+use Rattle.study.proofs.Settling.{over_passes}
 use Rattle.alter.specs.Altering.{altered, altered_site, new_inflow, new_inflow_of, first_changed, place_good}
 use Rattle.alter.specs.Needs.{PlaceOk}
 use Rattle.alter.proofs.Places.{altered_length}
 use Rattle.alter.proofs.Swapping.{new_is}
-use Rattle.edit.specs.declared.EditAnswer.TheVariants.{Refused, Done}
 use Rattle.laws.specs.Limits.{most_rows}
 use Rattle.laws.proofs.Listed.{rows_length}
 use Rattle.rewrite.specs.Rewriting.{rerouted, figures_in, edited_of}
@@ -68,8 +65,7 @@ module _ (h : ℕ) (p vs ws : List ℕ) (all : passed h p empty vs ≡ length vs
   over_from_lem =
       ⊎_elim
       (λ (l : passed h p st (drop a ws) < length (drop a ws)).
-      let far : passed h p empty ws + 1 ≡ a + (passed h p st (drop a ws) + 1) = omega (arith, passed_from) in
-      rw (lt-ltb (passed h p st (drop a ws)) (length (drop a ws)) l, lt-ltb (passed h p empty ws) (length ws) (omega (arith, l, passed_from, length-drop a ws)), ne_eqb (passed h p st (drop a ws) + 1) 0 (λ e. omega (arith, e)), ne_eqb (passed h p empty ws + 1) 0 (λ e. omega (arith, e)), far))
+      rw (lt-ltb (passed h p st (drop a ws)) (length (drop a ws)) l, lt-ltb (passed h p empty ws) (length ws) (omega (arith, l, passed_from, length-drop a ws)), passed_from))
       (λ (l : length (drop a ws) ≤ passed h p st (drop a ws)).
       rw (le-ltb (passed h p st (drop a ws)) (length (drop a ws)) l, le-ltb (passed h p empty ws) (length ws) (omega (arith, l, passed_from, length-drop a ws, long, changed_most vs ws))))
       (below_or_not (passed h p st (drop a ws)) (length (drop a ws)))
@@ -96,12 +92,7 @@ module _ (x : Site) (l : Rows) (so : Studied x l) where
   ready = site_ok x l two.0
 
   all_in : passed h p empty vs ≡ length vs
-  unfolding over_check
-  all_in = over_none h p empty vs (go (eqb (over_row h p empty vs) 0) refl two.1.0)
-    where
-      go : (b : Bool) → eqb (over_row h p empty vs) 0 ≡ b → (pick b none (refuse 14 (over_row h p empty vs))).number ≡ 0 → over_row h p empty vs ≡ 0
-      go true t q = eqb-true (over_row h p empty vs) 0 t
-      go false t q = absurd (omega arith)
+  all_in = over_none h p empty vs (over_passes h p vs two.1.0)
 
   module _ (k : ℕ) (r : List ℕ) (listed : 1 ≤ k) (last : k ≤ records_in x.subareas) (whole : length r ≡ width) where
     place : PlaceOk x.subareas k r
@@ -131,9 +122,9 @@ module _ (x : Site) (l : Rows) (so : Studied x l) where
     unfolding records_good
     run_same = rw (altered_length x.subareas k r place)
 
-    listed_passes : (unless 15 (place_good x.subareas k)).number ≡ 0
+    listed_passes : unless Place (place_good x.subareas k) ≡ none
     unfolding place_good
-    listed_passes = ap (λ (b : Bool). (unless 15 b).number) (keeps 1 k (records_in x.subareas) listed last)
+    listed_passes = ap (unless Place) (keeps 1 k (records_in x.subareas) listed last)
 
     sixteen : unfit_of x l k ≡ none
     sixteen =
@@ -143,7 +134,7 @@ module _ (x : Site) (l : Rows) (so : Studied x l) where
     seventeen : forged_line (half_of x.setup) x.pond l ≡ none
     seventeen =
         let few : length vs ≤ most_rows = omega (arith, rows_length (inflow_at x.setup x.rain x.subareas) 1 (length l.inflow), ready.basin.run.lengths.most) in
-        ap (λ (z : Rows). forged_line (half_of x.setup) x.pond z) rows_are ∙ rw (routed_pass ready.pond vs all_in few, column_length h p outflow_of empty vs, le-ltb (length vs) (length vs) (omega arith))
+        ap (λ (z : Rows). forged_line (half_of x.setup) x.pond z) rows_are ∙ rw (routed_pass ready.pond vs all_in few)
 
     fourteen : over_from h p l ws ≡ over_of new l
     fourteen = ap (λ (z : Rows). over_from h p z ws) rows_are ∙ over_from_lem h p vs ws all_in ws_long ∙ ap (over_check h p) ws_is
@@ -155,14 +146,15 @@ module _ (x : Site) (l : Rows) (so : Studied x l) where
         let stands = list_lines x.setup x.subareas in
         let mid = list_lines x.setup (altered x.subareas k r) ++ pond_lines (half_of x.setup) p in
         let run = both_pass (run_lines x l) (stands ++ pond_lines (half_of x.setup) p) two.0 in
-        sym (past (run_lines x l) _ _ run.0)
-        ∙ sym (past (unless 15 (place_good x.subareas k) ∷ []) _ _ (listed_passes, tt))
-        ∙ sym (past stands _ _ (both_pass stands (pond_lines (half_of x.setup) p) run.1).0)
-        ∙ ap (λ (z : Refusal). first_refusal (mid ++ (z ∷ forged_line (half_of x.setup) x.pond l ∷ over_from h p l ws ∷ []))) sixteen
-        ∙ ap (λ (z : Refusal). first_refusal (mid ++ (none ∷ z ∷ over_from h p l ws ∷ []))) seventeen
-        ∙ ap (λ (z : Refusal). first_refusal (mid ++ (none ∷ none ∷ z ∷ []))) fourteen
-        ∙ skipped mid (over_of new l)
-        ∙ past (run_lines new l) _ _ (subst (λ (z : List Refusal). AllPass z) run_same run.0)
+        sym (past (run_lines x l) _ run.0)
+        ∙ sym (past (unless Place (place_good x.subareas k) ∷ []) _ (listed_passes, tt))
+        ∙ sym (past stands _ (both_pass stands (pond_lines (half_of x.setup) p) run.1).0)
+        ∙ ap (λ (z : Line). first_refusal (mid ++ (z ∷ forged_line (half_of x.setup) x.pond l ∷ over_from h p l ws ∷ []))) sixteen
+        ∙ ap (λ (z : Line). first_refusal (mid ++ (none ∷ z ∷ over_from h p l ws ∷ []))) seventeen
+        ∙ ap (λ (z : Line). first_refusal (mid ++ (none ∷ none ∷ z ∷ []))) fourteen
+        ∙ skipped mid (none ∷ over_of new l ∷ [])
+        ∙ skipped mid (over_of new l ∷ [])
+        ∙ past (run_lines new l) _ (subst (λ (z : List Line). AllPass z) run_same run.0)
 
     -- and where nothing is refused, its rows are that study's
     rows_same : new_rows x l k r ≡ routed h p (inflow_of new l)
@@ -179,11 +171,10 @@ module _ (x : Site) (l : Rows) (so : Studied x l) where
     unfolding edit_answer edit_rows study_answer study_rows edited_of
     edit_of =
         record {
-          answers = rw refusal_same (go (eqb (study_refusal new l).number 0));
+          answers = rw refusal_same (go (study_refusal new l));
           rows = rw refusal_same (ap (λ (n : Rows). after (study_refusal new l) n l) rows_same);
         }
       where
-        go : (b : Bool) → study_in (pick b (Done (edit_done x l k r)) (Refused (study_refusal new l)))
-            ≡ pick b (Study.Done (figures_all h (altered x.subareas k r) p (inflow_of new l))) (Study.Refused (study_refusal new l))
-        go true = ap (λ (n : Rows). Study.Done (figures_with (classes_all (altered x.subareas k r)) (figures_in h p n))) rows_same
-        go false = refl
+        go : (v : Line) → study_in (answer v (edit_done x l k r)) ≡ answer v (figures_all h (altered x.subareas k r) p (inflow_of new l))
+        go (Ok u) = ap (λ (n : Rows). Ok (figures_with (classes_all (altered x.subareas k r)) (figures_in h p n))) rows_same
+        go (Err e) = refl

@@ -10,24 +10,19 @@ ghost use Rattle.rewrite.specs.Needs.{new_by, SwapFit};
 ghost use Rattle.edit.specs.Edit.{edit_refusal, edit_answer, edit_rows, edit_refusal_in, edit_values_in, edit_values};
 ghost use Rattle.edit.specs.Needs.{settled_from, settled_rows_from, refitted, refitted_rows, EditOk};
 
-use refusals::Refusal;
+use pond::Pond;
+use refusals::{Refusal, Rule};
 use rewrite::Edited;
+use rows::Level;
 use subarea::Setup;
 use sums::Numbers;
-
-// Every input has one of the two.
-#[derive(Clone, Copy)]
-pub enum EditAnswer {
-    Refused(Refusal),
-    Done(Edited),
-}
 
 // Refusal 14, or the rows from the first changed one on and what is told of them. Nothing is written before every row is
 // known to pass. `all` is no less than all the new inflow.
 fn settle(
     step: u64,
     rain: &[u64],
-    pond: &[u64],
+    pond: &Pond<'_>,
     old: Numbers,
     own: Numbers,
     all: u64,
@@ -35,23 +30,25 @@ fn settle(
     outflow: &mut [u64],
     storage: &mut [u64],
     classes: curve::Classes,
-) -> EditAnswer
-    requires swap_fit { SwapFit step rain.now pond.now old own (rows_now inflow.old outflow.old storage.old) }
+) -> Result<Edited, Refusal>
+    requires swap_fit { SwapFit step rain.now pond.now.table.numbers.now old own (rows_now inflow.old outflow.old storage.old) }
+    requires half { pond.now.half ≡ step / 2 }
     requires all_bound { (all ≤ 1000000000000000000) × (total (new_by step rain.now old own inflow.old) ≤ all) }
-    ensures value { result ≡ settled_from (step / 2) classes pond.now (found inflow.old outflow.old storage.old) (new_by step rain.now old own inflow.old) }
-    ensures storage_value { left inflow.new outflow.new storage.new ≡ settled_rows_from (step / 2) pond.now (found inflow.old outflow.old storage.old) (new_by step rain.now old own inflow.old) }
+    ensures value { result ≡ settled_from (step / 2) classes pond.now.table.numbers.now (found inflow.old outflow.old storage.old) (new_by step rain.now old own inflow.old) }
+    ensures storage_value { left inflow.new outflow.new storage.new ≡ settled_rows_from (step / 2) pond.now.table.numbers.now (found inflow.old outflow.old storage.old) (new_by step rain.now old own inflow.old) }
 {
     let a = alter::first_swapped(old, own, step, rain, inflow);
     let state = rows::state_before(outflow, storage, a);
     let come = all - rows::sum_of(&inflow[..a]);
-    let over = fitting::over::over_from(old, own, step, rain, pond, state, a, &inflow[a..], come);
-    if over != 0 {
-        return EditAnswer::Refused(Refusal {
-            number: 14,
-            place: a as u64 + over,
+    let level = Level::new(pond, state);
+    let over = fitting::over::over_from(old, own, step, rain, &level, a, &inflow[a..], come);
+    if let Some(i) = over {
+        return Err(Refusal {
+            rule: Rule::Over,
+            place: (a + i) as u64 + 1,
         });
     }
-    EditAnswer::Done(rewrite::finish(
+    Ok(rewrite::finish(
         step, rain, pond, old, own, inflow, outflow, storage, a, classes,
     ))
 }
@@ -67,34 +64,27 @@ fn work(
     storage: &mut [u64],
     place: u64,
     fresh: &[u64],
-) -> EditAnswer
+) -> Result<Edited, Refusal>
     requires { EditOk (site_now setup rain.now subareas.now pond.now) (rows_now inflow.old outflow.old storage.old) place fresh.now }
     ensures value { result ≡ refitted (site setup rain.now subareas.now pond.now) (found inflow.old outflow.old storage.old) place fresh.now }
     ensures storage_value { left inflow.new outflow.new storage.new ≡ refitted_rows (site setup rain.now subareas.now pond.now) (found inflow.old outflow.old storage.old) place fresh.now }
 {
-    let a = subarea::WIDTH * (place as usize - 1);
-    let e = a + subarea::WIDTH;
+    let record = &subarea::records(subareas)[place as usize - 1];
     let step = setup.step;
-    let old = inflow::numbers(setup, &subareas[a..e]);
+    let pond = Pond::new(pond, step / 2);
+    let old = inflow::numbers(setup, record);
     let own = inflow::numbers(setup, fresh);
     let fit = fitting::fit_rows(old, step, rain, inflow);
-    let v = Refusal::first_of(16, fit.bad, inflow.len()).or(checks::forged_check(
-        step / 2,
-        pond,
-        outflow,
-        storage,
-    ));
-    if v.number != 0 {
-        return EditAnswer::Refused(v);
-    }
+    refusals::refused_at(Rule::InflowRow, fit.bad)?;
+    checks::forged_check(&pond, outflow, storage)?;
     let all = fit.left + inflow::most_volume(own.tenths, own.area, rain);
     let classes = alter::altered_classes(subareas, place, fresh);
     settle(
-        step, rain, pond, old, own, all, inflow, outflow, storage, classes,
+        step, rain, &pond, old, own, all, inflow, outflow, storage, classes,
     )
 }
 
-// An edit: refused by number and place with every list as it was, or done with the rows from the first changed one on
+// An edit: refused by rule and place with every list as it was, or done with the rows from the first changed one on
 // written. The subareas are only read.
 pub fn run(
     setup: Setup,
@@ -106,18 +96,15 @@ pub fn run(
     storage: &mut [u64],
     place: u64,
     fresh: &[u64; subarea::WIDTH],
-) -> EditAnswer
+) -> Result<Edited, Refusal>
     ensures value { result ≡ edit_answer (site setup rain.now subareas.now pond.now) (found inflow.old outflow.old storage.old) place fresh.now }
     ensures storage_value { left inflow.new outflow.new storage.new ≡ edit_rows (site setup rain.now subareas.now pond.now) (found inflow.old outflow.old storage.old) place fresh.now }
     ensures result_value { edit_refusal_in result ≡ edit_refusal (site setup rain.now subareas.now pond.now) (found inflow.old outflow.old storage.old) place fresh.now }
     ensures result_value_2 { edit_values_in result ≡ edit_values (site setup rain.now subareas.now pond.now) (found inflow.old outflow.old storage.old) place fresh.now }
 {
-    let v = alter::order::edit_checks(
+    alter::order::edit_checks(
         setup, rain, subareas, pond, inflow, outflow, storage, place, fresh,
-    );
-    if v.number != 0 {
-        return EditAnswer::Refused(v);
-    }
+    )?;
     work(
         setup, rain, subareas, pond, inflow, outflow, storage, place, fresh,
     )

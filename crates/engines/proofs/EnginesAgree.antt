@@ -2,30 +2,28 @@
 use mathlib.Core.Path.{◌≡◌, refl, sym, ap, ◌∙◌}
 use mathlib.Core.Bool.{true}
 use mathlib.Core.List.{List}
-use mathlib.Core.Logic.{⊎_elim}
 use Prim.Native.Nat.{ℕ}
 use borrow.Author.Tests.{eq-eqb}
 use Rattle.laws.proofs.OneAnswer.{SameAnswersAnd}
-use Rattle.laws.proofs.Num.{equal_or_not}
 use Rattle.laws.proofs.Tests.{both_true}
 use Rattle.laws.proofs.Sums.{sum_same}
 use Rattle.laws.proofs.Listed.{rows_same}
-use Rattle.refusals.specs.Refusals.{after}
-use Rattle.refusals.proofs.Orders.{some_old}
+use Rattle.std.specs.Prelude.{Ok, Err, is_none}
+use Rattle.refusals.specs.Refusals.{Line, told, after}
 use Rattle.subarea.specs.declared.Setup.{Setup}
 use Rattle.subarea.specs.Records.{records_in, record_at}
 use Rattle.hydrograph.specs.Needs.{RainOk}
 use Rattle.checks.specs.Site.{Site, Rows, asked}
 use Rattle.checks.specs.Needs.{ListOk}
 use Rattle.checks.proofs.Ready.{inflow_ready}
-use Rattle.inflow.specs.Inflow.{part_of, inflow_at, inflow_rows, inflow_refusal, inflow_after}
-use Rattle.textbook.specs.Textbook.{part_laid_of, textbook_at, textbook_rows, textbook_refusal, textbook_after}
+use Rattle.inflow.specs.Inflow.{part_of, inflow_at, inflow_rows, inflow_refusal, inflow_of, inflow_after}
+use Rattle.textbook.specs.Textbook.{part_laid_of, textbook_at, textbook_rows, textbook_refusal, textbook_of, textbook_after}
 use Rattle.textbook.proofs.Rows.{record_agrees}
 use Rattle.inflow.proofs.run.Kinds as inflow-kinds
 use Rattle.inflow.proofs.run.Reads as inflow-reads
 use Rattle.textbook.proofs.run.Reads as textbook-reads
 use Rattle.engines.specs.Agreeing.{EnginesAgree}
-use Rattle.engines.specs.Compared.{first_differing, verdict_of, agrees}
+use Rattle.engines.specs.Compared.{verdict_of, agrees}
 use Rattle.engines.proofs.Differing.{differing_none}
 
 -- the rows of a list within its limits
@@ -39,16 +37,14 @@ unfolding inflow_refusal textbook_refusal
 engines_agree x l =
     record {
       answers = refl;
-      rows = ⊎_elim accepted refused (equal_or_not (inflow_refusal x l).number 0);
+      rows = go (inflow_refusal x l) refl;
     }
   where
-    accepted : (inflow_refusal x l).number ≡ 0 → textbook_after x l ≡ inflow_after x l
-    accepted e =
+    go : (v : Line) → inflow_refusal x l ≡ v → after v (textbook_of x l) l.inflow ≡ after v (inflow_of x l) l.inflow
+    go (Ok u) e =
         let ok = inflow_ready x l e in
-        ap (λ (z : List ℕ). after (inflow_refusal x l) z l.inflow) (rows_agree x.setup x.rain x.subareas (asked l) ok.run.raining ok.list)
-
-    refused : ((inflow_refusal x l).number ≡ 0 → ⊥) → textbook_after x l ≡ inflow_after x l
-    refused e = sym (some_old (inflow_refusal x l) e _ l.inflow) ∙ some_old (inflow_refusal x l) e _ l.inflow
+        rows_agree x.setup x.rain x.subareas (asked l) ok.run.raining ok.list
+    go (Err f) e = refl
 
 -- so the promises of both allow, on the same arguments, one answer and one inflow list afterwards
 pub runs_agree : SameAnswersAnd inflow-kinds.ps inflow-kinds.r {L = List ℕ} (λ κs s. s.1.1.1.0.now) inflow-reads.Post textbook-reads.Post
@@ -61,6 +57,6 @@ pub always_same : (x : Site) (l : Rows) → agrees (verdict_of x l l) ≡ true
 unfolding agrees verdict_of
 always_same x l =
     let same = engines_agree x l in
-    both_true (eq-eqb (inflow_refusal x l).number (textbook_refusal x l).number (sym (ap (λ v. v.number) same.answers)))
-    (both_true (eq-eqb (inflow_refusal x l).place (textbook_refusal x l).place (sym (ap (λ v. v.place) same.answers)))
-    (eq-eqb (first_differing (inflow_after x l) (textbook_after x l)) 0 (differing_none (inflow_after x l) (textbook_after x l) (sym same.rows))))
+    both_true (eq-eqb (told (inflow_refusal x l)).0 (told (textbook_refusal x l)).0 (sym (ap (λ v. (told v).0) same.answers)))
+    (both_true (eq-eqb (told (inflow_refusal x l)).1 (told (textbook_refusal x l)).1 (sym (ap (λ v. (told v).1) same.answers)))
+    (ap is_none (differing_none (inflow_after x l) (textbook_after x l) (sym same.rows))))

@@ -1,48 +1,48 @@
 // Both engines of the inflow rows beside each other: the first, `inflow`, and the textbook's, `textbook`.
 #![tactic(auto)]
 
-ghost use Rattle.std.specs.Prelude.{◌≡◌};
+ghost use Rattle.std.specs.Prelude.{◌≡◌, ◌==◌, not, position};
+ghost use Rattle.std.specs.List.{zip};
 ghost use Rattle.checks.specs.Site.{basin, found};
 ghost use Rattle.inflow.specs.Inflow.{inflow_after};
 ghost use Rattle.textbook.specs.Textbook.{textbook_after};
 ghost use Rattle.engines.specs.Compared.{alike_in, first_differing, verdict_of, agrees};
 
-use laws::both;
 use refusals::Refusal;
 use subarea::Setup;
 
-// What each engine answers, and the first row, from 1, in which their lists differ, or 0.
-#[derive(Clone, Copy)]
+// What each engine answers, and the first row, from 1, in which their lists differ, if there is one.
+#[derive(Clone, Copy, Debug, PartialEq, Eq)]
 pub struct Verdict {
-    pub fast: Refusal,
-    pub slow: Refusal,
-    pub row: usize,
+    pub fast: Result<(), Refusal>,
+    pub slow: Result<(), Refusal>,
+    pub row: Option<usize>,
 }
 
-// How many rows are the same in both lists before the first that is not.
+// The first row, from 0, of those that both lists have, that differs.
+fn first_unlike(a: &[u64], b: &[u64]) -> Option<usize>
+    ensures { result ≡ position (λ p. not (p.0 == p.1)) (zip a.now b.now) }
+{
+    a.iter().zip(b).position(|(x, y)| x != y)
+}
+
+// How many rows are the same in both lists before the first that is not: a count, so not an `Option`.
 fn alike(a: &[u64], b: &[u64]) -> usize
     ensures { result ≡ alike_in a.now b.now }
 {
-    let n = laws::least(a.len(), b.len());
-    let mut i = 0;
-    while i < n {
-        if a[i] != b[i] {
-            return i;
-        }
-        i += 1;
-    }
-    i
+    first_unlike(a, b).unwrap_or(a.len().min(b.len()))
 }
 
-// The first row, from 1, that differs, or that only one of two lists has; 0 where they are the same.
-pub fn first_differing(a: &[u64], b: &[u64]) -> usize
+// The first row, from 1, that differs, or that only one of two lists has; none where they are the same.
+#[tactic(auto, unfolding(crate::specs::Compared::first_differing))]
+pub fn first_differing(a: &[u64], b: &[u64]) -> Option<usize>
     ensures { result ≡ first_differing a.now b.now }
 {
     let i = alike(a, b);
-    if both(i == a.len(), i == b.len()) {
-        0
+    if i == a.len() && i == b.len() {
+        None
     } else {
-        i + 1
+        Some(i + 1)
     }
 }
 
@@ -70,11 +70,10 @@ pub fn compare(
     }
 }
 
-// Did both answer the same, by number and place, and leave the same rows?
+// Did both answer the same, by rule and place, and leave the same rows? Called nowhere: docs/PROMISES.md names its theorem.
+#[tactic(auto, unfolding(crate::specs::Compared::agrees))]
 pub fn agree(own: Verdict) -> bool
     ensures { result ≡ agrees own }
 {
-    let a = own.fast;
-    let b = own.slow;
-    both(a.number == b.number, both(a.place == b.place, own.row == 0))
+    own.fast == own.slow && own.row.is_none()
 }

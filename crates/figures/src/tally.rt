@@ -1,141 +1,118 @@
-// Counting verdicts, and the last line, which names every row that is not as it should be.
-ghost use Rattle.std.specs.Prelude.{◌≤◌};
+// Counting what rows came to, and the last line, which names every row that is not as it should be.
+use arrayvec::ArrayVec;
+use std::io;
+use std::io::Write;
 
-use crate::verdict::Verdict;
-use crate::{phrases, say};
-use laws::both;
+// What a row came to: whether its figures are the expected ones, and whether they round to the printed one, where there is
+// one. An unreadable row counts as run and not right.
+#[derive(Clone, Copy, Debug, PartialEq, Eq)]
+pub(crate) enum Verdict {
+    NotRun,
+    Run { right: bool, agrees: Option<bool> },
+}
 
-// Names of rows that are not as expected stand in the first half of the list, those whose printed
-// figure differs in the second.
-const HALF: usize = 4096;
+// A list of names is cut behind so many bytes, those before its first name included.
+const ROOM: usize = 4096;
 
-#[derive(Clone, Copy)]
+// The names of rows, each behind a semicolon and a blank.
+#[derive(Drop)]
+struct Names {
+    bytes: ArrayVec<u8, ROOM>,
+}
+
+impl Names {
+    fn new() -> Names {
+        Names {
+            bytes: ArrayVec::new(),
+        }
+    }
+
+    // What does not fit is left out.
+    fn append(&mut self, text: &[u8]) {
+        let _ = self.bytes.write(text);
+    }
+
+    fn add(&mut self, table: &str, label: &[u8]) {
+        self.append(b"; ");
+        self.append(table.as_bytes());
+        self.append(b" ");
+        self.append(label);
+    }
+
+    // The names, where there are any. A list that is full says that it was cut.
+    fn print(&self, out: &impl Print, what: &str) -> io::Result<()> {
+        let [_, _, names @ ..] = self.bytes.as_slice() else {
+            return Ok(());
+        };
+        print!(out; "{what}")?;
+        out.write_all(names)?;
+        if self.bytes.is_full() {
+            print!(out; ".. and more")?;
+        }
+        Ok(())
+    }
+}
+
+#[derive(Drop)]
 pub(crate) struct Tally {
     rows: u64,
     right: u64,
     wrong: u64,
-    idle: u64,
+    not_run: u64,
     agree: u64,
     differ: u64,
-    wrong_end: usize,
-    differ_end: usize,
+    wrong_names: Names,
+    differ_names: Names,
 }
 
-pub(crate) fn start() -> Tally {
-    Tally {
-        rows: 0,
-        right: 0,
-        wrong: 0,
-        idle: 0,
-        agree: 0,
-        differ: 0,
-        wrong_end: 0,
-        differ_end: HALF,
+impl Tally {
+    pub(crate) fn new() -> Tally {
+        Tally {
+            rows: 0,
+            right: 0,
+            wrong: 0,
+            not_run: 0,
+            agree: 0,
+            differ: 0,
+            wrong_names: Names::new(),
+            differ_names: Names::new(),
+        }
     }
-}
 
-// One more where the test holds. No run comes near the limit, which keeps the sum from wrapping.
-fn more(n: u64, test: bool) -> u64 {
-    if n >= 1000000000 {
-        return n;
+    // A row's verdict counted, and its name kept where it is not as it should be.
+    pub(crate) fn count(&mut self, verdict: Verdict, table: &str, label: &[u8]) {
+        self.rows = self.rows.saturating_add(1);
+        let Verdict::Run { right, agrees } = verdict else {
+            self.not_run = self.not_run.saturating_add(1);
+            return;
+        };
+        if right {
+            self.right = self.right.saturating_add(1);
+        } else {
+            self.wrong = self.wrong.saturating_add(1);
+            self.wrong_names.add(table, label);
+        }
+        match agrees {
+            Some(true) => self.agree = self.agree.saturating_add(1),
+            Some(false) => {
+                self.differ = self.differ.saturating_add(1);
+                self.differ_names.add(table, label);
+            }
+            None => {}
+        }
     }
-    if test { n + 1 } else { n }
-}
 
-fn put(names: &mut [u8; 8192], at: usize, limit: usize, b: u8) -> usize
-    requires { limit ≤ 8192 }
-{
-    if at < limit {
-        names[at] = b;
-        at + 1
-    } else {
-        at
+    pub(crate) fn print(&self, out: &impl Print) -> io::Result<()> {
+        print!(out;
+            "{} rows: {} as expected, {} not",
+            self.rows, self.right, self.wrong
+        )?;
+        self.wrong_names.print(out, ", WRONG: ")?;
+        print!(out;
+            "; printed: {} agree, {} do not, {} not run",
+            self.agree, self.differ, self.not_run
+        )?;
+        self.differ_names.print(out, "; do not agree: ")?;
+        println!(out; "")
     }
-}
-
-fn append(names: &mut [u8; 8192], at: usize, limit: usize, s: &[u8]) -> usize
-    requires { limit ≤ 8192 }
-{
-    let mut end = at;
-    let mut i = 0;
-    while i < s.len() {
-        end = put(names, end, limit, s[i]);
-        i += 1;
-    }
-    end
-}
-
-// A list of names with one more at its end, where the test holds.
-fn named(
-    names: &mut [u8; 8192],
-    at: usize,
-    limit: usize,
-    test: bool,
-    word: &[u8],
-    label: &[u8],
-) -> usize
-    requires { limit ≤ 8192 }
-{
-    if !test {
-        return at;
-    }
-    let a = put(names, at, limit, b';');
-    let b = put(names, a, limit, b' ');
-    let c = append(names, b, limit, word);
-    let d = put(names, c, limit, b' ');
-    append(names, d, limit, label)
-}
-
-// A row's verdict counted, and its name kept where it is not as it should be.
-pub(crate) fn counted(
-    t: Tally,
-    v: Verdict,
-    word: &[u8],
-    label: &[u8],
-    names: &mut [u8; 8192],
-) -> Tally {
-    let is_wrong = both(v.run, !v.right);
-    let differs = both(v.compared, !v.agrees);
-    Tally {
-        rows: more(t.rows, true),
-        right: more(t.right, both(v.run, v.right)),
-        wrong: more(t.wrong, is_wrong),
-        idle: more(t.idle, !v.run),
-        agree: more(t.agree, both(v.compared, v.agrees)),
-        differ: more(t.differ, differs),
-        wrong_end: named(names, t.wrong_end, HALF, is_wrong, word, label),
-        differ_end: named(names, t.differ_end, 8192, differs, word, label),
-    }
-}
-
-// The names of one half, where there are any, without what stands before the first. A list that
-// filled its half says that it was cut.
-fn listed(what: u64, names: &[u8], from: usize, end: usize, limit: usize)
-    requires { from ≤ 8192 }
-{
-    let first = from + 2;
-    if end < first {
-        return;
-    }
-    if end > names.len() {
-        return;
-    }
-    phrases::say(what);
-    say::bytes(&names[first..end]);
-    if end >= limit {
-        phrases::say(phrases::CUT);
-    }
-}
-
-pub(crate) fn last_line(t: Tally, names: &[u8; 8192]) {
-    say::count(t.rows, phrases::ROWS);
-    say::count(t.right, phrases::RIGHT);
-    say::count(t.wrong, phrases::NOT_RIGHT);
-    listed(phrases::NAMED_WRONG, names, 0, t.wrong_end, HALF);
-    phrases::say(phrases::IN_PRINT);
-    say::count(t.agree, phrases::AGREE);
-    say::count(t.differ, phrases::DIFFER);
-    say::count(t.idle, phrases::IDLE);
-    listed(phrases::NAMED_DIFFER, names, HALF, t.differ_end, 8192);
-    say::byte(b'\n');
 }

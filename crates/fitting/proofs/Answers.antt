@@ -9,4 +9,4 @@ pub fit_rows_one : OneAnswer fit-rows-kinds.ps fit-rows-kinds.r fit-rows-reads.P
 fit_rows_one κs a x y s t p q = same p q
 
 pub over_from_one : OneAnswer over-from-kinds.ps over-from-kinds.r over-from-reads.Post
-over_from_one κs a x y s t p q = same p q
+over_from_one κs a x y s t p q = same p.0 q.0

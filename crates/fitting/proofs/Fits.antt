@@ -2,13 +2,14 @@
 use mathlib.Core.Path.{◌≡◌, refl, sym, ap, ◌∙◌, subst}
 use mathlib.Core.Bool.{Bool, true, false}
 use mathlib.Core.Logic.{⊎_elim}
-use mathlib.Core.List.{List}
+use mathlib.Core.List.{List, ◌++◌}
 use Prim.Native.Nat.{ℕ, zero, suc, ◌+◌, ◌-◌, ◌*◌, ◌≤◌, ◌<◌}
 use native.Mathlib.Omega.{arith}
-use borrow.Author.Tests.{leb-true, le-leb}
+use borrow.Author.Tests.{leb-true, le-leb, lt-ltb, le-ltb}
 use lib.Dec.{leb}
-use lib.ListN.{length, take, drop, replicate, get_or-replicate, length-drop}
+use lib.ListN.{length, take, drop, replicate, get_or-replicate, get_or-append}
 use lib.Seq.{get_or-take, get_or-drop, length-take-le}
+use Rattle.std.specs.Prelude.{Option, None, Some}
 use Rattle.laws.specs.Sum.{sum_to}
 use Rattle.laws.specs.Scan.{scan}
 use Rattle.laws.specs.Limits.{most_inflow}
@@ -21,9 +22,12 @@ use Rattle.laws.proofs.Scans.{scan_most, scan_same, scan_before, scan_bad, scan_
 use Rattle.hydrograph.specs.Needs.{RoomOk}
 use Rattle.sums.specs.Needs.{block_rows}
 use Rattle.rows.specs.Figures.{at}
+use Rattle.alter.proofs.Blocks.{stopped_some, block_end}
+use Rattle.refusals.specs.Refusals.{stopped}
+use Rattle.refusals.proofs.Orders.{stopped_none}
 use Rattle.fitting.specs.declared.Fit.{Fit}
 use Rattle.fitting.specs.Fits.{inflow_fits}
-use Rattle.fitting.specs.Needs.{fit_by}
+use Rattle.fitting.specs.Needs.{unfit_by, fit_by}
 
 -- one row
 pub fits : (f v : ℕ) → inflow_fits f v ≡ true → (f ≤ v) × (v ≤ most_inflow)
@@ -62,13 +66,13 @@ pub record Fitting (p : ℕ → ℕ) (vs : List ℕ) (left i : ℕ) : Type 0 whe
 pub fit_same : (p q : ℕ → ℕ) (vs : List ℕ) → ((i : ℕ) → i < length vs → p i ≡ q i) → fit_by p vs ≡ fit_by q vs
 fit_same p q vs e =
     let good : ℕ → Bool = λ i. inflow_fits (q i) (at vs i) in
-    let bad : (fit_by p vs).bad ≡ (fit_by q vs).bad = scan_same (λ i. inflow_fits (p i) (at vs i)) good (length vs) 0 (λ i lo hi. ap (λ (z : ℕ). inflow_fits z (at vs i)) (e i (omega arith))) in
+    let bad : unfit_by p vs ≡ unfit_by q vs = scan_same (λ i. inflow_fits (p i) (at vs i)) good (length vs) 0 (λ i lo hi. ap (λ (z : ℕ). inflow_fits z (at vs i)) (e i (omega arith))) in
     let left : (fit_by p vs).left ≡ (fit_by q vs).left
-    = ap (sum_to (λ i. at vs i - p i)) bad ∙ sum_same (λ i. at vs i - p i) (λ i. at vs i - q i) (scan good (length vs) 0) (λ i l. ap (λ (z : ℕ). at vs i - z) (e i (omega (arith, l, scan_most good (length vs) 0)))) in
-    λ k. record { bad = bad k; left = left k }
+    = ap (sum_to (λ i. at vs i - p i)) bad ∙ sum_same (λ i. at vs i - p i) (λ i. at vs i - q i) (unfit_by q vs) (λ i l. ap (λ (z : ℕ). at vs i - z) (e i (omega (arith, l, scan_most good (length vs) 0)))) in
+    λ k. record { bad = stopped (bad k) (length vs); left = left k }
 
 -- the place found, and the rows before it
-pub fit_found : (p : ℕ → ℕ) (vs : List ℕ) → Fitting p vs (fit_by p vs).left (fit_by p vs).bad
+pub fit_found : (p : ℕ → ℕ) (vs : List ℕ) → Fitting p vs (fit_by p vs).left (unfit_by p vs)
 fit_found p vs =
     let good : ℕ → Bool = λ i. inflow_fits (p i) (at vs i) in
     record { so_far = omega (arith, scan_most good (length vs) 0); each = λ k l. scan_before good (length vs) 0 k (omega arith) l; sums = refl }
@@ -80,7 +84,7 @@ module _ (p : ℕ → ℕ) (vs : List ℕ) where
   fit_start = record { so_far = omega arith; each = λ k l. absurd (omega arith); sums = refl }
 
   -- it is the only place with such rows before it that is bad, or the end
-  found_is : (left i : ℕ) → Fitting p vs left i → (i < length vs → inflow_fits (p i) (at vs i) ≡ false) → record { bad = i; left = left } ≡ fit_by p vs
+  found_is : (left i : ℕ) → Fitting p vs left i → (i < length vs → inflow_fits (p i) (at vs i) ≡ false) → record { bad = stopped i (length vs); left = left } ≡ fit_by p vs
   found_is left i so here =
       let good : ℕ → Bool = λ k. inflow_fits (p k) (at vs k) in
       let is : scan good (length vs) 0 ≡ i = scan_is good (length vs) i so.so_far so.each here in
@@ -89,6 +93,18 @@ module _ (p : ℕ → ℕ) (vs : List ℕ) where
   -- what is left is small
   pub fit_small : (left i : ℕ) → Fitting p vs left i → left ≤ i * most_inflow
   fit_small left i so = omega (arith, so.sums, sum_most (λ k. at vs k - p k) most_inflow i (λ k l. omega (arith, (fits (p k) (at vs k) (so.each k l)).1)))
+
+  -- a row that does not fit ends it
+  pub fit_stop : (left i : ℕ) → Fitting p vs left i → i < length vs → inflow_fits (p i) (at vs i) ≡ false → record { bad = Some i; left = left } ≡ fit_by p vs
+  fit_stop left i so l t =
+      let some : stopped i (length vs) ≡ Some i = rw (lt-ltb i (length vs) l) refl in
+      ap (λ (o : Option ℕ). record { bad = o; left = left }) (sym some) ∙ found_is left i so (λ m. t)
+
+  -- so does the end of the rows
+  pub fit_end : (left i : ℕ) → Fitting p vs left i → length vs ≤ i → record { bad = None; left = left } ≡ fit_by p vs
+  fit_end left i so l =
+      let none : stopped i (length vs) ≡ None = rw (le-ltb i (length vs) l) refl in
+      ap (λ (o : Option ℕ). record { bad = o; left = left }) (sym none) ∙ found_is left i so (λ m. absurd (omega (arith, m, l)))
 
   module _ (left i : ℕ) (so : Fitting p vs left i) where
     -- a row that fits
@@ -100,61 +116,54 @@ module _ (p : ℕ → ℕ) (vs : List ℕ) where
           sums = omega (arith, so.sums, sum_more (λ k. at vs k - p k) i);
         }
 
-    -- one that does not
-    pub fit_stop : i < length vs → inflow_fits (p i) (at vs i) ≡ false → record { bad = i; left = left } ≡ fit_by p vs
-    fit_stop l t = found_is left i so (λ m. t)
+    -- a block off the front of the rows still due, with its own parts, as its rows were found to fit
+    module _ (front rest : List ℕ) (parts : drop i vs ≡ front ++ rest) (q : ℕ → ℕ) (part : (k : ℕ) → k < length front → q k ≡ p (i + k)) (found : Fit) (is : found ≡ fit_by q front) where
+      ends : i + length front ≤ length vs
+      ends = block_end vs i so.so_far front rest parts
 
-    -- no row is left
-    pub fit_end : length vs ≤ i → record { bad = i; left = left } ≡ fit_by p vs
-    fit_end l = found_is left i so (λ m. absurd (omega arith))
+      row : (k : ℕ) → k < length front → at front k ≡ at vs (i + k)
+      row k l = sym (get_or-append front rest 0 k l) ∙ ap (λ (z : List ℕ). at z k) (sym parts) ∙ get_or-drop i vs k 0
 
-    -- the rows from row i to row e, with their own parts, as they were found to fit
-    module _ (e : ℕ) (lo : i ≤ e) (hi : e ≤ length vs) (q : ℕ → ℕ) (part : (k : ℕ) → k < e - i → q k ≡ p (i + k)) (found : Fit) (is : found ≡ fit_by q (take (e - i) (drop i vs))) where
-      abbrev ws : List ℕ
-      ws = take (e - i) (drop i vs)
-
-      long : length (take (e - i) (drop i vs)) ≡ e - i
-      long = length-take-le (e - i) (drop i vs) (omega (arith, length-drop i vs))
-
-      row : (k : ℕ) → k < e - i → at (take (e - i) (drop i vs)) k ≡ at vs (i + k)
-      row k l = get_or-take (e - i) (drop i vs) k 0 l ∙ get_or-drop i vs k 0
-
-      same : (k : ℕ) → k < e - i → inflow_fits (q k) (at (take (e - i) (drop i vs)) k) ≡ inflow_fits (p (i + k)) (at vs (i + k))
-      same k l = rw (part k l, row k l)
+      same : (k : ℕ) → k < length front → inflow_fits (q k) (at front k) ≡ inflow_fits (p (i + k)) (at vs (i + k))
+      same k l = rw (part k l, row k l) refl
 
       -- the rows of the block that fit
-      on : Fitting p vs (left + found.left) (i + found.bad)
+      own : Fitting q front found.left (unfit_by q front)
+      own = rw is (fit_found q front)
+
+      on : Fitting p vs (left + found.left) (i + unfit_by q front)
       on =
-          let own : Fitting q ws found.left found.bad = rw is (fit_found q ws) in
-          let some : found.bad ≤ e - i = omega (arith, own.so_far, long) in
+          let n = unfit_by q front in
           record {
-            so_far = omega arith;
+            so_far = omega (arith, own.so_far, ends);
             each = λ k m. ⊎_elim (λ (b : k < i). so.each k b)
-                (λ (b : i ≤ k). let back : i + (k - i) ≡ k = omega arith in rw back at (sym (same (k - i) (omega arith)) ∙ own.each (k - i) (omega arith)))
+                (λ (b : i ≤ k). let back : i + (k - i) ≡ k = omega arith in rw back at (sym (same (k - i) (omega (arith, m, b, own.so_far))) ∙ own.each (k - i) (omega (arith, m, b))))
                 (below_or_not k i);
             sums = omega (
               arith,
               so.sums,
               own.sums,
-              sum_on (λ k. at vs k - p k) i found.bad,
-              sum_same (λ k. at ws k - q k) (λ k. at vs (i + k) - p (i + k)) found.bad (λ k l. rw (part k (omega arith), row k (omega arith))),
+              sum_on (λ k. at vs k - p k) i n,
+              sum_same (λ k. at front k - q k) (λ k. at vs (i + k) - p (i + k)) n (λ k l. rw (part k (omega (arith, l, own.so_far)), row k (omega (arith, l, own.so_far))) refl),
             );
           }
 
       -- what is left is small
       pub block_room : left + found.left ≤ length vs * most_inflow
-      block_room = omega (arith, on.so_far, fit_small (left + found.left) (i + found.bad) on)
+      block_room = omega (arith, on.so_far, fit_small (left + found.left) (i + unfit_by q front) on)
+
+      bad_is : found.bad ≡ stopped (unfit_by q front) (length front)
+      bad_is = ap (λ (z : Fit). z.bad) is
 
       -- all fit
-      pub block_turn : e - i ≤ found.bad → Fitting p vs (left + found.left) e
-      block_turn l =
-          let own : Fitting q ws found.left found.bad = rw is (fit_found q ws) in
-          let ends : i + found.bad ≡ e = omega (arith, own.so_far, long) in
-          subst (λ (z : ℕ). Fitting p vs (left + found.left) z) ends on
+      pub block_turn : found.bad ≡ None → Fitting p vs (left + found.left) (i + length front)
+      block_turn none =
+          let all : i + unfit_by q front ≡ i + length front = omega (arith, own.so_far, stopped_none (unfit_by q front) (length front) (sym bad_is ∙ none)) in
+          subst (λ (z : ℕ). Fitting p vs (left + found.left) z) all on
 
       -- one does not
-      pub block_stop : found.bad < e - i → record { bad = i + found.bad; left = left + found.left } ≡ fit_by p vs
-      block_stop l =
-          let there : found.bad ≡ (fit_by q ws).bad = ap (λ (z : Fit). z.bad) is in
-          let bad : inflow_fits (q found.bad) (at ws found.bad) ≡ false = rw there (scan_bad (λ k. inflow_fits (q k) (at ws k)) (length ws) 0 (omega (arith, there, long))) in
-          found_is (left + found.left) (i + found.bad) on (λ m. sym (same found.bad l) ∙ bad)
+      pub block_stop : {k : ℕ} → found.bad ≡ Some k → record { bad = Some (i + k); left = left + found.left } ≡ fit_by p vs
+      block_stop {k} here =
+          let stops = stopped_some (unfit_by q front) (length front) (sym bad_is ∙ here) in
+          let bad : inflow_fits (q (unfit_by q front)) (at front (unfit_by q front)) ≡ false = scan_bad (λ k. inflow_fits (q k) (at front k)) (length front) 0 (omega (arith, stops.1)) in
+          rw stops.0 (fit_stop (left + found.left) (i + unfit_by q front) on (omega (arith, stops.1, ends)) (sym (same (unfit_by q front) stops.1) ∙ bad))

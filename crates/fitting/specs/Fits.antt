@@ -1,4 +1,4 @@
--- Document 01, refusal 16 of an edit: inflow rows held against the old record's parts.
+-- docs/SCOPE.md, refusal 16 of an edit: inflow rows held against the old record's parts.
 use Rattle.std.specs.Prelude.{Bool, ◌&&◌, List, ℕ, ◌+◌, length, leb}
 use Rattle.laws.specs.Scan.{scan}
 use Rattle.laws.specs.Limits.{most_inflow}

@@ -1,4 +1,4 @@
--- What is found of rows that are held against the old record's parts, and what contracts ask of rows that are run dry with their new inflow; no rule of document 01 is here.
+-- What is found of rows that are held against the old record's parts, and what contracts ask of rows that are run dry with their new inflow; no rule of docs/SCOPE.md is here.
 use Rattle.std.specs.Prelude.{List, ℕ, ◌+◌, ◌-◌, ◌/◌, ◌≤◌, length}
 use Rattle.laws.specs.Scan.{scan}
 use Rattle.laws.specs.Sum.{sum_to}
@@ -10,18 +10,19 @@ use Rattle.parts.specs.Needs.{part_by}
 use Rattle.pond.specs.Needs.{PondOk}
 use Rattle.rows.specs.Needs.{InflowOk}
 use Rattle.rows.specs.Figures.{at}
+use Rattle.refusals.specs.Refusals.{stopped}
 use Rattle.alter.specs.Altering.{swapped}
 use Rattle.alter.specs.Needs.{PartsFit}
 use Rattle.fitting.specs.declared.Fit.{Fit}
 use Rattle.fitting.specs.Fits.{inflow_fits}
 
--- how far rows vs fit parts, p i that of row i from 0: the first row that does not, and what the rows before it leave without them (exact: `fits`)
+-- the first of rows vs that does not fit its part, p i that of row i from 0, or their number
+abbrev pub unfit_by : (ℕ → ℕ) → List ℕ → ℕ
+unfit_by p vs = scan (λ i. inflow_fits (p i) (at vs i)) (length vs) 0
+
+-- how far rows fit: the first that does not, and what the rows before it, or all of them, leave without their parts (exact: `fits`)
 abbrev pub fit_by : (ℕ → ℕ) → List ℕ → Fit
-fit_by p vs =
-    record {
-      bad = scan (λ i. inflow_fits (p i) (at vs i)) (length vs) 0;
-      left = sum_to (λ i. at vs i - p i) (scan (λ i. inflow_fits (p i) (at vs i)) (length vs) 0);
-    }
+fit_by p vs = record { bad = stopped (unfit_by p vs) (length vs); left = sum_to (λ i. at vs i - p i) (unfit_by p vs) }
 
 -- of parts f, and of a list of them fs
 abbrev pub fit_of : (ℕ → ℕ) → List ℕ → Fit

@@ -14,11 +14,11 @@ ghost use Rattle.fitting.specs.Needs.{fit_by, fit_of, fit_under};
 use laws::limits;
 use sums::Numbers;
 
-// How far rows fit the old record: the first (from 0) that does not, or their number; and what the rows before it leave without
-// the old record's parts.
-#[derive(Clone, Copy)]
+// How far rows fit the old record: the first (from 0) that does not; and what the rows before it, or all of them, leave without the
+// old record's parts.
+#[derive(Clone, Copy, Debug, PartialEq, Eq)]
 pub struct Fit {
-    pub bad: usize,
+    pub bad: Option<usize>,
     pub left: u64,
 }
 
@@ -28,16 +28,14 @@ fn fit_block(parts: &[u64], inflow: &[u64]) -> Fit
     ensures { result ≡ fit_under parts.now inflow.now }
 {
     let mut left = 0;
-    let mut i = 0;
-    while i < inflow.len() {
+    for i in 0..inflow.len() {
         let own = inflow[i];
-        if !laws::both(parts[i] <= own, own <= limits::MOST_INFLOW) {
-            return Fit { bad: i, left };
+        if !(parts[i]..=limits::MOST_INFLOW).contains(&own) {
+            return Fit { bad: Some(i), left };
         }
         left += own - parts[i];
-        i += 1;
     }
-    Fit { bad: i, left }
+    Fit { bad: None, left }
 }
 
 // The same of a block of rows after row `from`, of which the parts are worked out.
@@ -45,10 +43,10 @@ fn fit_next(old: Numbers, step: u64, rain: &[u64], from: usize, inflow: &[u64]) 
     requires { NumbersOk step old × (RainOk rain.now × ((1 ≤ length inflow.now) × ((length inflow.now ≤ block_rows) × (from + length inflow.now ≤ most_rows)))) }
     ensures { result ≡ fit_by (λ (i : ℕ). part_by step rain.now old (from + 1 + i)) inflow.now }
 {
-    let n = inflow.len();
     let mut rows = [0u64; sums::BLOCK];
-    parts::add_block(old, step, rain, from, &mut rows[..n]);
-    fit_block(&rows[..n], inflow)
+    let own = &mut rows[..inflow.len()];
+    parts::add_block(old, step, rain, from, own);
+    fit_block(own, inflow)
 }
 
 // 16, looked for block by block.
@@ -56,20 +54,18 @@ pub fn fit_rows(old: Numbers, step: u64, rain: &[u64], inflow: &[u64]) -> Fit
     requires { NumbersOk step old × (RainOk rain.now × (length inflow.now ≤ most_rows)) }
     ensures { result ≡ fit_of (part_by step rain.now old) inflow.now }
 {
-    let m = inflow.len();
     let mut left = 0;
     let mut at = 0;
-    while at < m {
-        let e = laws::least(at + sums::BLOCK, m);
-        let fit = fit_next(old, step, rain, at, &inflow[at..e]);
+    for block in inflow.chunks(sums::BLOCK) {
+        let fit = fit_next(old, step, rain, at, block);
         left += fit.left;
-        if fit.bad < e - at {
+        if let Some(k) = fit.bad {
             return Fit {
-                bad: at + fit.bad,
+                bad: Some(at + k),
                 left,
             };
         }
-        at = e;
+        at += block.len();
     }
-    Fit { bad: m, left }
+    Fit { bad: None, left }
 }

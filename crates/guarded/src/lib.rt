@@ -1,12 +1,18 @@
-// The engine's functions by a letter, behind their limits: NONE where the numbers are out of them.
+// The engine's functions by a letter, behind their limits: no figure where the numbers are out of them.
 #![tactic(auto)]
 
 mod bursts;
+mod functions;
 mod ponds;
 mod studies;
 
+use functions::Function;
+use laws::limits;
+use refusals::Rule;
+use travel::SheetRule;
+
 // Above every limit of the engine.
-pub const NONE: u64 = 1000000000000000;
+pub const ABOVE_LIMITS: u64 = 1000000000000000;
 
 // No segment takes longer: a channel as rough and as long as may be, at the least radius and slope.
 const MOST_SEGMENT_TIME: u64 = 5777933;
@@ -14,232 +20,189 @@ const MOST_SEGMENT_TIME: u64 = 5777933;
 // The greatest Tc that segments within their limits can have. Refusal 9 begins far below it.
 const GREATEST_TC: u64 = travel::MOST_SEGMENTS as u64 * MOST_SEGMENT_TIME;
 
-// What a function gives: up to four figures, NONE for each that it does not have.
-#[derive(Clone, Copy)]
-pub struct Four {
-    pub a: u64,
-    pub b: u64,
-    pub c: u64,
-    pub d: u64,
+// The greatest sums of a mean.
+const MOST_OF_MEAN: u64 = 1000000000000;
+
+// The greatest depth of a volume, in millionths of an inch.
+const MOST_DEPTH: u64 = 30000000;
+
+// What a function gives: up to four figures.
+pub type Four = [Option<u64>; 4];
+
+fn one(figure: Option<u64>) -> Four {
+    [figure, None, None, None]
 }
 
-pub(crate) fn two(a: u64, b: u64) -> Four {
-    Four {
-        a,
-        b,
-        c: NONE,
-        d: NONE,
-    }
-}
-
-fn one(a: u64) -> Four {
-    two(a, NONE)
-}
-
-// A number of a list, NONE where it has none there.
-fn at(n: &[u64], i: usize) -> u64 {
-    if i < n.len() { n[i] } else { NONE }
-}
-
-fn cover(cover: u64, soil: u64) -> u64 {
-    if cover < 1 {
-        return NONE;
-    }
-    if cover > 22 {
-        return NONE;
-    }
-    if soil < 1 {
-        return NONE;
-    }
-    if soil > 4 {
-        return NONE;
-    }
-    curve::cover_number(cover, soil)
-}
-
-fn covers(number: u64) -> Four {
-    Four {
-        a: cover(number, 1),
-        b: cover(number, 2),
-        c: cover(number, 3),
-        d: cover(number, 4),
-    }
-}
-
-// In tenths.
-fn composite(patches: &[u64]) -> u64 {
-    if curve::patches_good(patches) {
-        let ground = curve::composite(patches);
-        ground.tenths
+fn cover(cover: u64, soil: u64) -> Option<u64> {
+    if (1..=22).contains(&cover) && (1..=4).contains(&soil) {
+        Some(curve::cover_number(cover, soil))
     } else {
-        NONE
+        None
+    }
+}
+
+// A cover's curve numbers on the four soils.
+fn covers(n: &[u64]) -> Four {
+    match *n {
+        [number, ..] => [1, 2, 3, 4].map(|soil| cover(number, soil)),
+        [] => [None; 4],
+    }
+}
+
+// The composite curve number of patches, three numbers each, in tenths.
+fn composite(patches: &[u64]) -> Option<u64> {
+    if curve::patches_good(patches) {
+        Some(curve::composite(patches).tenths)
+    } else {
+        None
     }
 }
 
 // The mean, in tenths, of curve numbers that no cover code has: their sum by area, and the area.
-fn mean(weighted: u64, area: u64) -> u64 {
-    if area < 1 {
-        return NONE;
-    }
-    if area > 1000000000000 {
-        return NONE;
-    }
-    if weighted > 1000000000000 {
-        return NONE;
-    }
-    curve::mean_tenths(weighted, area)
-}
-
-fn depth(tenths: u64, rain: u64) -> u64 {
-    if tenths < 300 {
-        return NONE;
-    }
-    if tenths > 980 {
-        return NONE;
-    }
-    if rain > 30000 {
-        return NONE;
-    }
-    runoff::depth(tenths, rain)
-}
-
-// At four rains, which stand behind the curve number.
-fn depths(n: &[u64], tenths: u64) -> Four {
-    Four {
-        a: depth(tenths, at(n, 1)),
-        b: depth(tenths, at(n, 2)),
-        c: depth(tenths, at(n, 3)),
-        d: depth(tenths, at(n, 4)),
+fn mean(n: &[u64]) -> Option<u64> {
+    match *n {
+        [weighted, area, ..] if weighted <= MOST_OF_MEAN && (1..=MOST_OF_MEAN).contains(&area) => {
+            Some(curve::mean_tenths(weighted, area))
+        }
+        _ => None,
     }
 }
 
-// What stands third, fourth and fifth is by the kind. A segment by itself is of no study and has no sheet rule: no time depends
-// on it, and it is tested by the farther limit.
-fn segment(kind: u64, length: u64, third: u64, fourth: u64, fifth: u64) -> u64 {
-    let one = [kind, length, third, fourth, fifth];
-    if travel::segments_good(travel::sheet_limit(travel::TR55), &one) {
-        travel::segment_time(kind, length, third, fourth, fifth)
+// Of the curve number in tenths, which stands first, and the rain at place i behind it.
+fn depth(n: &[u64], i: usize) -> Option<u64> {
+    let tenths = *n.first()?;
+    let rain = *n.get(i)?;
+    if (300..=980).contains(&tenths) && rain <= limits::MOST_RAIN {
+        Some(runoff::depth(tenths, rain))
     } else {
-        NONE
+        None
     }
 }
 
-// Tc and Tp of segments, five numbers each, at a step; by the farther limit, as a segment.
-fn path(step: u64, segments: &[u64]) -> Four {
-    if travel::segments_good(travel::sheet_limit(travel::TR55), segments) {
-        let tc = travel::concentration(segments);
-        let at = timing(step, tc);
-        two(tc, at.a)
-    } else {
-        one(NONE)
+// The time of a segment: what stands third, fourth and fifth is by its kind. By itself it is of no study and has no sheet
+// rule: no time depends on it, and it is tested by the farther limit. A number that is not there is above its limit, and only
+// a kind that does not read it passes.
+fn segment(n: &[u64]) -> Option<u64> {
+    let mut own = [ABOVE_LIMITS; travel::SEGMENT_WIDTH];
+    for (place, number) in own.iter_mut().zip(n) {
+        *place = *number;
     }
+    if !travel::segments_good(SheetRule::Tr55.limit(), &own) {
+        return None;
+    }
+    let [kind, length, third, fourth, fifth] = own;
+    Some(travel::segment_time(kind, length, third, fourth, fifth))
 }
 
-// The step stands before the segments.
-fn flow(n: &[u64]) -> Four {
-    if n.len() < 1 {
-        return one(NONE);
+// Tc and Tp of the segments that stand behind a step; by the farther limit, as a segment.
+fn path(n: &[u64]) -> Four {
+    match n {
+        [step, segments @ ..] if travel::segments_good(SheetRule::Tr55.limit(), segments) => {
+            let tc = travel::concentration(segments);
+            let [peak, ..] = timing(*step, tc);
+            [Some(tc), peak, None, None]
+        }
+        _ => [None; 4],
     }
-    path(n[0], &n[1..])
 }
 
 // Tp, and the first of refusals 9 to 11 that a Tc meets at a step, 0 for none.
 fn timing(step: u64, tc: u64) -> Four {
-    if step > 3600 {
-        return one(NONE);
+    if step > limits::MOST_STEP || !(360..=GREATEST_TC).contains(&tc) {
+        return [None; 4];
     }
-    if tc < 360 {
-        return one(NONE);
-    }
-    if tc > GREATEST_TC {
-        return one(NONE);
-    }
-    let peak = travel::time_to_peak(step, tc);
-    if !hydrograph::concentration_good(tc) {
-        return two(peak, 9);
-    }
-    if !hydrograph::peak_good(step, tc) {
-        return two(peak, 10);
-    }
-    if !hydrograph::weights_good(step, tc) {
-        return two(peak, 11);
-    }
-    two(peak, 0)
+    let refusal = if !hydrograph::concentration_good(tc) {
+        Some(Rule::Concentration)
+    } else if !hydrograph::peak_good(step, tc) {
+        Some(Rule::Coarse)
+    } else if !hydrograph::weights_good(step, tc) {
+        Some(Rule::Weights)
+    } else {
+        None
+    };
+    [
+        Some(travel::time_to_peak(step, tc)),
+        Some(refusal.map_or(0, Rule::number)),
+        None,
+        None,
+    ]
 }
 
-fn weight(peak: u64, step: u64, j: u64) -> u64 {
-    if step < 60 {
-        return NONE;
+// The numbers: the step, the Tc.
+fn timing_of(n: &[u64]) -> Four {
+    match *n {
+        [step, tc, ..] => timing(step, tc),
+        _ => [None; 4],
     }
-    if step > 3600 {
-        return NONE;
-    }
-    if peak < step {
-        return NONE;
-    }
-    if peak > 400000 {
-        return NONE;
-    }
-    if 5 * peak > 512 * step {
-        return NONE;
-    }
-    if j > 512 {
-        return NONE;
-    }
-    if j * step > 5 * peak {
-        return NONE;
-    }
-    hydrograph::weight(peak, step, j)
 }
 
-fn volume(area: u64, depth: u64) -> u64 {
-    if area > 200000 {
-        return NONE;
+// The weight of a Tp and a step at place j.
+fn weight(n: &[u64]) -> Option<u64> {
+    let [peak, step, j, ..] = *n else {
+        return None;
+    };
+    if !(limits::LEAST_STEP..=limits::MOST_STEP).contains(&step)
+        || !(step..=400000).contains(&peak)
+    {
+        return None;
     }
-    if depth > 30000000 {
-        return NONE;
+    let most = limits::MOST_WEIGHTS as u64;
+    if 5 * peak > most * step || j > most || j * step > 5 * peak {
+        return None;
     }
-    hydrograph::volume(area, depth)
+    Some(hydrograph::weight(peak, step, j))
 }
 
-// Of two areas as one; a row with one area has 0 for the other.
-fn volumes(n: &[u64]) -> Four {
-    let a = volume(at(n, 0), at(n, 1));
-    let b = volume(at(n, 2), at(n, 3));
-    if a >= NONE {
-        return one(NONE);
+fn volume(area: u64, depth: u64) -> Option<u64> {
+    if area <= limits::MOST_AREA && depth <= MOST_DEPTH {
+        Some(hydrograph::volume(area, depth))
+    } else {
+        None
     }
-    if b >= NONE {
-        return one(NONE);
+}
+
+// Of two areas as one, each with its depth behind it; a row with one area has 0 for the other.
+fn volumes(n: &[u64]) -> Option<u64> {
+    match *n {
+        [area, depth, other_area, other_depth, ..] => {
+            volume(area, depth)?.checked_add(volume(other_area, other_depth)?)
+        }
+        _ => None,
     }
-    one(a + b)
 }
 
 // X of a row, the last of its figures, alone.
-fn last(f: Four) -> Four {
-    one(f.d)
+fn routed_sum(n: &[u64]) -> Option<u64> {
+    let [_, _, _, sum] = ponds::routed(n);
+    sum
 }
 
-// The function that a letter names, on a list of numbers.
+impl Function {
+    fn figures(self, n: &[u64]) -> Four {
+        match self {
+            Function::Covers => covers(n),
+            Function::Composite => one(composite(n)),
+            Function::Mean => one(mean(n)),
+            Function::Depth => one(depth(n, 1)),
+            Function::Depths => [depth(n, 1), depth(n, 2), depth(n, 3), depth(n, 4)],
+            Function::Segment => one(segment(n)),
+            Function::Path => path(n),
+            Function::Timing => timing_of(n),
+            Function::Weight => one(weight(n)),
+            Function::Volume => one(volumes(n)),
+            Function::SumOfProducts => one(bursts::sum(n)),
+            Function::PondSum => one(ponds::sum(n)),
+            Function::Route => ponds::routed(n),
+            Function::RoutedSum => one(routed_sum(n)),
+            Function::Study(asked) => studies::run(asked, n),
+        }
+    }
+}
+
+// The function that a letter names, on a list of numbers. Any letter may be asked, so it takes the byte and not a `Function`.
 pub fn given_by(function: u8, n: &[u64]) -> Four {
-    match function {
-        b'c' => covers(at(n, 0)),
-        b'p' => one(composite(n)),
-        b'm' => one(mean(at(n, 0), at(n, 1))),
-        b'd' => one(depth(at(n, 0), at(n, 1))),
-        b'a' => depths(n, at(n, 0)),
-        b's' => one(segment(at(n, 0), at(n, 1), at(n, 2), at(n, 3), at(n, 4))),
-        b'f' => flow(n),
-        b't' => timing(at(n, 0), at(n, 1)),
-        b'w' => one(weight(at(n, 0), at(n, 1), at(n, 2))),
-        b'v' => volumes(n),
-        b'h' => one(bursts::sum(n)),
-        b'X' => one(ponds::sum(n)),
-        b'r' => ponds::routed(n),
-        b'x' => last(ponds::routed(n)),
-        b'S' => studies::run(function, n),
-        b'I' => studies::run(function, n),
-        b'F' => studies::run(function, n),
-        _ => one(NONE),
+    match Function::try_from(function) {
+        Ok(function) => function.figures(n),
+        Err(_) => [None; 4],
     }
 }

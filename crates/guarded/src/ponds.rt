@@ -1,113 +1,89 @@
 // The pond's table and its rows behind their limits.
-ghost use Rattle.std.specs.Prelude.{◌≡◌, ◌≤◌};
-ghost use Rattle.pond.specs.Needs.{PondOk, StateOk};
+ghost use Rattle.std.specs.Prelude.{◌≤◌};
+ghost use Rattle.pond.specs.Needs.{StateOk};
 
-use crate::{Four, NONE, two};
-use pond::State;
-use rows::Dry;
+use crate::{ABOVE_LIMITS, Four};
+use pond::{Pond, State, Table};
+use refusals::Rule;
+use rows::{Dry, Level};
 
-// The first refusal that a pond meets at a half step, 0 for none.
-fn refused(pond: &[u64], half: u64) -> u64
-    ensures { result ≡ 0 → PondOk half pond.now }
-{
-    let n = pond.len() / 3;
-    if half < 30 {
-        return 2;
+// The most rows that a list of numbers routes.
+const MOST_ROUTED: u64 = 64;
+
+// The pond of a table at a half step, or the first rule that it breaks.
+fn checked(numbers: &[u64], half: u64) -> Result<Pond<'_>, Rule> {
+    if !(30..=1800).contains(&half) {
+        return Err(Rule::Step);
     }
-    if half > 1800 {
-        return 2;
+    let Ok(table) = Table::check(numbers) else {
+        return Err(Rule::PondTable);
+    };
+    match Pond::check(&table, half) {
+        Ok(pond) => Ok(pond),
+        Err(_) => Err(Rule::PondHeld),
     }
-    if !pond::count_good(pond) {
-        return 12;
-    }
-    if pond::first_bad(pond) != n {
-        return 12;
-    }
-    if pond::first_short(pond, half) != n {
-        return 13;
-    }
-    0
 }
 
 // X of a row of the pond. The numbers: h, the row from 0, the pond.
-pub(crate) fn sum(n: &[u64]) -> u64 {
-    if n.len() < 2 {
-        return NONE;
+pub(crate) fn sum(n: &[u64]) -> Option<u64> {
+    let [half, row, numbers @ ..] = n else {
+        return None;
+    };
+    match checked(numbers, *half) {
+        Ok(pond) if *row < pond.table.rows() as u64 => Some(pond.sum_at(*row as usize)),
+        _ => None,
     }
-    let half = n[0];
-    let row = n[1] as usize;
-    let pond = &n[2..];
-    if refused(pond, half) != 0 {
-        return NONE;
-    }
-    if row >= pond.len() / 3 {
-        return NONE;
-    }
-    pond::sum_at(pond, half, row)
 }
 
 // A dry run of one row, which tells that row's own stage.
-fn step(pond: &[u64], half: u64, state: State, inflow: u64) -> Dry
-    requires { PondOk half pond.now × (StateOk half pond.now state × (inflow ≤ 1000000000000000)) }
-    ensures { StateOk half pond.now result.last }
+fn step(level: &Level<'_>, inflow: u64) -> Dry
+    requires { inflow ≤ 1000000000000000 }
+    ensures { StateOk level.now.pond.half level.now.pond.table.numbers.now result.last }
 {
-    let one = [inflow];
-    rows::dry_run(pond, half, state, &one)
+    rows::dry_run(level, &[inflow])
+}
+
+// There is no first figure; a refusal is the second.
+fn unrouted(refused: Option<Rule>) -> Four {
+    [None, refused.map(Rule::number), None, None]
 }
 
 // What the last row of inflow volumes leaves: outflow, storage, stage and X.
-fn last_row(pond: &[u64], half: u64, inflow: &[u64]) -> Four
-    requires { PondOk half pond.now }
-{
-    let mut state = State {
-        storage: 0,
-        outflow: 0,
-    };
+fn last_row(pond: &Pond<'_>, inflow: &[u64]) -> Four {
+    let mut state = State::default();
     let mut stage = 0;
-    let mut x = 0;
-    let mut i = 0;
-    while i < inflow.len() {
-        let volume = inflow[i];
-        if volume >= NONE {
-            return two(NONE, NONE);
+    let mut sum = 0;
+    for &volume in inflow {
+        if volume >= ABOVE_LIMITS {
+            return unrouted(None);
         }
-        x = pond::arrive(half, state, volume);
-        let dry = step(pond, half, state, volume);
-        if dry.over != 0 {
-            return two(NONE, 14);
+        sum = state.arrive(pond.half, volume);
+        let dry = step(&Level::new(pond, state), volume);
+        if dry.over.is_some() {
+            return unrouted(Some(Rule::Over));
         }
-        let kept = dry.kept;
-        stage = kept.stage;
+        stage = dry.kept.stage;
         state = dry.last;
-        i += 1;
     }
-    Four {
-        a: state.outflow,
-        b: state.storage,
-        c: stage,
-        d: x,
-    }
+    [
+        Some(state.outflow),
+        Some(state.storage),
+        Some(stage),
+        Some(sum),
+    ]
 }
 
-// The numbers: h, how many rows, their inflow volumes, the pond. A refusal is the second figure, and
-// there is no first.
+// The numbers: h, how many rows, their inflow volumes, the pond.
 pub(crate) fn routed(n: &[u64]) -> Four {
-    if n.len() < 2 {
-        return two(NONE, NONE);
+    let [half, rows, numbers @ ..] = n else {
+        return unrouted(None);
+    };
+    if *rows > MOST_ROUTED || *rows > numbers.len() as u64 {
+        return unrouted(None);
     }
-    let half = n[0];
-    if n[1] > 64 {
-        return two(NONE, NONE);
+    let (inflow, table) = numbers.split_at(*rows as usize);
+    match checked(table, *half) {
+        Ok(pond) => last_row(&pond, inflow),
+        Err(rule) => unrouted(Some(rule)),
     }
-    let from = n[1] as usize + 2;
-    if from > n.len() {
-        return two(NONE, NONE);
-    }
-    let inflow = &n[2..from];
-    let pond = &n[from..];
-    let refusal = refused(pond, half);
-    if refusal != 0 {
-        return two(NONE, refusal);
-    }
-    last_row(pond, half, inflow)
 }

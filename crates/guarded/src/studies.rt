@@ -1,8 +1,10 @@
 // A whole study of a list of numbers: the site's own, through every check and every row.
-ghost use Rattle.std.specs.Prelude.{◌≤◌, length};
+ghost use Rattle.std.specs.Prelude.{◌≤◌};
 
-use crate::{Four, NONE, two};
-use study::{Figures, StudyAnswer};
+use crate::Four;
+use crate::functions::Asked;
+use refusals::Refusal;
+use study::Figures;
 use subarea::Setup;
 
 // The most rows that a list of numbers asks here.
@@ -11,134 +13,98 @@ const ROOM: usize = 400;
 // More than a list of numbers has.
 const MOST: u64 = 2048;
 
-// What stands before the lists: the step, the first row's number in millions and what is over, the sheet rule, the rows, the rain
-// entries, the numbers of the subareas.
-const BEFORE: usize = 7;
+// A row's number is told in millions and what is over, since it may be above what is read as a number.
+const MILLION: u64 = 1000000;
 
-// The greatest inflow row, the first that has it, and the total inflow.
-fn greatest(rows: &[u64], total: u64) -> Four {
-    let mut most = 0;
-    let mut row = 0;
-    let mut i = 0;
-    while i < rows.len() {
-        let volume = rows[i];
-        i += 1;
-        if volume > most {
-            most = volume;
-            row = i as u64;
-        }
-    }
-    Four {
-        a: most,
-        b: row,
-        c: total,
-        d: NONE,
-    }
+const MOST_MILLIONS: u64 = 10000000000;
+
+// What a study is lent to read.
+#[derive(Clone, Copy)]
+struct Site<'a> {
+    setup: Setup,
+    rain: &'a [u64],
+    subareas: &'a [u64],
+    pond: &'a [u64],
 }
 
-// Of a study that is done: no refusal; its first figures; or its greatest inflow row and total inflow.
-fn done(told: u8, f: Figures, inflow: &[u64]) -> Four {
-    match told {
-        b'S' => two(0, 0),
-        b'I' => greatest(inflow, f.inflow),
-        _ => Four {
-            a: f.inflow,
-            b: f.released,
-            c: f.storage,
-            d: f.peak,
-        },
+// The greatest inflow row, the first that has it, from 1 and 0 where all are 0, and the total inflow.
+fn greatest(rows: &[u64], total: u64) -> Four {
+    let most = rows.iter().copied().max().unwrap_or(0);
+    let row = match rows.iter().position(|&volume| volume == most) {
+        Some(i) if most > 0 => i as u64 + 1,
+        _ => 0,
+    };
+    [Some(most), Some(row), Some(total), None]
+}
+
+// Of a study that is done: no refusal; its greatest inflow row and total inflow; or its first figures.
+fn done(asked: Asked, figures: &Figures, inflow: &[u64]) -> Four {
+    match asked {
+        Asked::Refusal => [Some(0), Some(0), None, None],
+        Asked::Inflow => greatest(inflow, figures.inflow),
+        Asked::Figures => [
+            Some(figures.inflow),
+            Some(figures.released),
+            Some(figures.storage),
+            Some(figures.peak),
+        ],
     }
 }
 
 // A refusal's number and place; where figures are asked there are none.
-fn refused(told: u8, number: u64, place: u64) -> Four {
-    if told == b'S' {
-        two(number, place)
-    } else {
-        two(NONE, number)
+fn refused(asked: Asked, refusal: Refusal) -> Four {
+    match asked {
+        Asked::Refusal => [Some(refusal.rule.number()), Some(refusal.place), None, None],
+        Asked::Inflow | Asked::Figures => [None, Some(refusal.rule.number()), None, None],
     }
 }
 
-fn given(told: u8, answer: StudyAnswer, inflow: &[u64]) -> Four {
-    match answer {
-        StudyAnswer::Refused(r) => refused(told, r.number, r.place),
-        StudyAnswer::Done(f) => done(told, f, inflow),
-    }
-}
-
-// Rain, subareas and pond stand behind each other in n; the subareas from a on, the pond from e on.
-fn worked(
-    told: u8,
-    setup: Setup,
-    n: &[u64],
-    a: usize,
-    e: usize,
-    inflow: &mut [u64],
-    outflow: &mut [u64],
-    storage: &mut [u64],
-) -> Four
-    requires { (7 ≤ a) × ((a ≤ e) × (e ≤ length n.now)) }
+fn worked(asked: Asked, site: &Site<'_>, rows: usize) -> Four
+    requires { rows ≤ 400 }
 {
+    let mut inflow = [0; ROOM];
+    let mut outflow = [0; ROOM];
+    let mut storage = [0; ROOM];
     let answer = study::run(
-        setup,
-        &n[BEFORE..a],
-        &n[a..e],
-        &n[e..],
-        inflow,
-        outflow,
-        storage,
+        site.setup,
+        site.rain,
+        site.subareas,
+        site.pond,
+        &mut inflow[..rows],
+        &mut outflow[..rows],
+        &mut storage[..rows],
     );
-    given(told, answer, inflow)
+    match answer {
+        Ok(figures) => done(asked, &figures, &inflow[..rows]),
+        Err(refusal) => refused(asked, refusal),
+    }
 }
 
-fn lent(told: u8, setup: Setup, m: usize, n: &[u64], a: usize, e: usize) -> Four
-    requires m_bound { m ≤ 400 }
-    requires le_a { (7 ≤ a) × ((a ≤ e) × (e ≤ length n.now)) }
-{
-    let mut inflow = [0u64; ROOM];
-    let mut outflow = [0u64; ROOM];
-    let mut storage = [0u64; ROOM];
-    worked(
-        told,
-        setup,
-        n,
-        a,
-        e,
-        &mut inflow[0..m],
-        &mut outflow[0..m],
-        &mut storage[0..m],
-    )
-}
-
-// A row number is above NONE: it is told in millions and what is over.
-pub(crate) fn run(told: u8, n: &[u64]) -> Four {
-    if n.len() < BEFORE {
-        return two(NONE, NONE);
-    }
-    if n[1] > 10000000000 {
-        return two(NONE, NONE);
-    }
-    if n[2] > 999999 {
-        return two(NONE, NONE);
-    }
-    if n[4] > ROOM as u64 {
-        return two(NONE, NONE);
-    }
-    if n[5] > MOST {
-        return two(NONE, NONE);
-    }
-    if n[6] > MOST {
-        return two(NONE, NONE);
-    }
-    let a = BEFORE + n[5] as usize;
-    let e = a + n[6] as usize;
-    if e > n.len() {
-        return two(NONE, NONE);
-    }
-    let setup = Setup {
-        step: n[0],
-        first: n[1] * 1000000 + n[2],
-        rule: n[3],
+// The numbers: the step, the first row's number in millions and what is over, the sheet rule, how many rows, how many
+// numbers of rain and of subareas, and then those and the pond's.
+pub(crate) fn run(asked: Asked, n: &[u64]) -> Four {
+    let Some((head, lists)) = n.split_first_chunk::<7>() else {
+        return [None; 4];
     };
-    lent(told, setup, n[4] as usize, n, a, e)
+    let [step, millions, over, rule, rows, entries, records] = *head;
+    if millions > MOST_MILLIONS || over >= MILLION || rows > ROOM as u64 {
+        return [None; 4];
+    }
+    if entries > MOST || records > MOST || entries + records > lists.len() as u64 {
+        return [None; 4];
+    }
+    let (rain, lists) = lists.split_at(entries as usize);
+    let (subareas, pond) = lists.split_at(records as usize);
+    let setup = Setup {
+        step,
+        first: millions * MILLION + over,
+        rule,
+    };
+    let site = Site {
+        setup,
+        rain,
+        subareas,
+        pond,
+    };
+    worked(asked, &site, rows as usize)
 }

@@ -14,6 +14,7 @@ use contract.Monad.{Fun, fact}
 use denote.Triple.Entry.{Args}
 use denote.Triple.Clauses.{AtExit}
 use borrow.Fn.Kinds.{Dens, ended_of}
+use Rattle.refusals.specs.Refusals.{told}
 use Rattle.subarea.specs.declared.Setup.{Setup}
 use Rattle.subarea.specs.Records.{width, records_in}
 use Rattle.checks.specs.Site.{Site, Rows, site_now, rows_now}
@@ -41,12 +42,12 @@ use Rattle.host.specs.contracts.records.bt_edit_records as bt-edit-records
 -- what an edit's promise and a study's say of what they return, write and leave, put together; the study is lent site z and rows m
 module _ (x : Site) (l : Rows) (k : ℕ) (r : List ℕ) {y z : Site} {m : Rows} {number number' : ℕ} {numbers numbers' : List ℕ} {rows rows' : Rows} where
   beside : EditBesideStudy x l k r y → z ≡ y → m ≡ l
-      → number ≡ (edit_refusal_in (edit_answer x l k r)).number → numbers ≡ edit_numbers_of (edit_answer x l k r) → rows ≡ edit_rows x l k r
-      → number' ≡ (study_refusal_in (study_answer z m)).number → numbers' ≡ study_numbers_of (study_answer z m) → rows' ≡ study_rows z m
+      → number ≡ (told (edit_refusal_in (edit_answer x l k r))).0 → numbers ≡ edit_numbers_of (edit_answer x l k r) → rows ≡ edit_rows x l k r
+      → number' ≡ (told (study_refusal_in (study_answer z m))).0 → numbers' ≡ study_numbers_of (study_answer z m) → rows' ≡ study_rows z m
       → SameToHost number numbers rows number' numbers' rows'
   beside same site lent a b c a' b' c' =
       record {
-        returned = a ∙ same.returned ∙ sym (a' ∙ (λ i. (study_refusal_in (study_answer (site i) (lent i))).number));
+        returned = a ∙ same.returned ∙ sym (a' ∙ (λ i. (told (study_refusal_in (study_answer (site i) (lent i)))).0));
         first_twelve = ap (take 12) b ∙ same.first_twelve ∙ sym (b' ∙ (λ i. study_numbers_of (study_answer (site i) (lent i))));
         left = c ∙ same.left ∙ sym (c' ∙ (λ i. study_rows (site i) (lent i)));
       }

@@ -4,14 +4,14 @@ use mathlib.Core.List.{List}
 use Prim.Native.Nat.{ℕ, ◌≤◌}
 use native.Mathlib.Omega.{arith}
 use lib.ListN.{length}
+use Rattle.refusals.specs.Refusals.{told}
 use Rattle.subarea.specs.declared.Setup.{Setup}
 use Rattle.subarea.specs.Records.{width, records_in}
 use Rattle.checks.specs.Site.{Site, Rows}
-use Rattle.study.specs.declared.StudyAnswer.{StudyAnswer}
-use Rattle.study.specs.Study.{study_refusal_in}
+use Rattle.study.specs.Study.{StudyAnswer, study_refusal_in}
 use Rattle.alter.specs.Altering.{altered_site}
 use Rattle.rewrite.specs.declared.Edited.{Edited}
-use Rattle.edit.specs.declared.EditAnswer.TheVariants.{Done}
+use Rattle.std.specs.Prelude.{Ok}
 use Rattle.edit.specs.Edit.{edit_answer, edit_rows}
 use Rattle.edit.specs.Standing.{Standing, edited}
 use Rattle.edit.proofs.EditIsStudy.{edit_is_study}
@@ -29,7 +29,7 @@ host_edit_is_study {x} {l} so k lo hi r w =
     let same = edit_is_study so k lo hi r w in
     let a = edit_answer x l k r in
     record {
-      returned = same_number a ∙ ap (λ (z : StudyAnswer). (study_refusal_in z).number) same.answers;
+      returned = same_number a ∙ ap (λ (z : StudyAnswer). (told (study_refusal_in z)).0) same.answers;
       first_twelve = first_twelve a ∙ ap study_numbers_of same.answers;
       left = same.rows;
     }
@@ -50,6 +50,6 @@ module _ (g : Setup) (rain : List ℕ) (ss : List Subarea) (p : List ℕ) (l : R
   records_edit_is_study = subst (λ (y : Site). EditBesideStudy here l k (record_of n) y) put_in_site (host_edit_is_study so k lo listed (record_of n) (record_length n))
 
   -- the rows of a done edit stand on the site of the list with n in place k, so that the next edit is lent that list
-  pub records_stand : (e : Edited) → edit_answer here l k (record_of n) ≡ Done e → Standing (records_site g rain (put_in ss k n) p) (edit_rows here l k (record_of n))
+  pub records_stand : (e : Edited) → edit_answer here l k (record_of n) ≡ Ok e → Standing (records_site g rain (put_in ss k n) p) (edit_rows here l k (record_of n))
   records_stand e done =
       subst (λ (y : Site). Standing y (edit_rows here l k (record_of n))) put_in_site (edited here l so k lo listed (record_of n) (record_length n) e done)

@@ -5,13 +5,14 @@ use mathlib.Core.List.{List, [], ◌∷◌, ◌++◌}
 use Prim.Native.Nat.{ℕ, ◌%◌, ◌<◌}
 use native.Mathlib.Omega.{arith}
 use lib.Dec.{eqb}
+use Rattle.std.specs.Prelude.{Ok, Err}
 use lib.ListN.{length}
 use Rattle.laws.specs.Within.{within}
 use Rattle.laws.specs.Limits.{most_subareas}
 use Rattle.laws.proofs.Tests.{both_right, kept}
-use Rattle.refusals.specs.declared.Refusal.{Refusal}
-use Rattle.refusals.specs.Refusals.{unless, first_refusal}
-use Rattle.refusals.proofs.Orders.{stops, all_pass, both_pass, charge_none}
+use Rattle.refusals.specs.declared.Rule.TheVariants.{Subareas}
+use Rattle.refusals.specs.Refusals.{Line, none, unless, first_refusal, answer}
+use Rattle.refusals.proofs.Orders.{stops, all_pass, both_pass, pass_none, charge_none, refused_answer}
 use Rattle.subarea.specs.declared.Setup.{Setup}
 use Rattle.subarea.specs.Records.{width, records_in}
 use Rattle.checks.specs.Site.{Site, Rows}
@@ -40,18 +41,28 @@ module _ (g : Setup) (rain p : List ℕ) (l : Rows) where
   on s = record { setup = g; rain = rain; subareas = s; pond = p }
 
   -- 1 to 5 refuse a list that 5 refuses
-  run_refuses : (s : List ℕ) → records_good s ≡ false → (first_refusal (run_lines (on s) l)).number ≡ 0 → ⊥
+  run_refuses : (s : List ℕ) → records_good s ≡ false → first_refusal (run_lines (on s) l) ≡ none → ⊥
   run_refuses s e q =
-      let five = (both_pass (fore_lines g rain l) (unless 5 (records_good s) ∷ []) (all_pass (run_lines (on s) l) q)).1.0 in
-      true≢false (sym (charge_none 4 (records_good s) 0 five) ∙ e)
+      let five = (both_pass (fore_lines g rain l) (unless Subareas (records_good s) ∷ []) (all_pass (run_lines (on s) l) q)).1.0 in
+      true≢false (sym (charge_none Subareas (records_good s) 0 five) ∙ e)
 
   -- and look at no more of it: an order that begins with them refuses two such lists alike
-  pub alike : (rest : List ℕ → List Refusal) (s u : List ℕ) → records_good s ≡ false → records_good u ≡ false
+  pub alike : (rest : List ℕ → List Line) (s u : List ℕ) → records_good s ≡ false → records_good u ≡ false
       → first_refusal (run_lines (on s) l ++ rest s) ≡ first_refusal (run_lines (on u) l ++ rest u)
-  alike rest s u e f =
-      let run : run_lines (on s) l ≡ run_lines (on u) l = rw (e, f) in
-      sym (stops (run_lines (on s) l) (rest s) refl (run_refuses s e)) ∙ ap first_refusal run ∙ stops (run_lines (on u) l) (rest u) refl (run_refuses u f)
+  alike rest s u e f = go (first_refusal (run_lines (on s) l)) refl
+    where
+      run : run_lines (on s) l ≡ run_lines (on u) l
+      run = rw (e, f) refl
+
+      go : (v : Line) → first_refusal (run_lines (on s) l) ≡ v → first_refusal (run_lines (on s) l ++ rest s) ≡ first_refusal (run_lines (on u) l ++ rest u)
+      go (Ok w) t = absurd (run_refuses s e t)
+      go (Err w) t = sym (stops (run_lines (on s) l) (rest s) (sym t)) ∙ stops (run_lines (on u) l) (rest u) (sym t ∙ ap first_refusal run)
 
   -- and does refuse them
-  pub refuses : (rest : List Refusal) (s : List ℕ) → records_good s ≡ false → (first_refusal (run_lines (on s) l ++ rest)).number ≡ 0 → ⊥
-  refuses rest s e q = run_refuses s e (ap (λ (v : Refusal). v.number) (stops (run_lines (on s) l) rest refl (run_refuses s e)) ∙ q)
+  pub refuses : (rest : List Line) (s : List ℕ) → records_good s ≡ false → first_refusal (run_lines (on s) l ++ rest) ≡ none → ⊥
+  refuses rest s e q = run_refuses s e (pass_none (run_lines (on s) l) (both_pass (run_lines (on s) l) rest (all_pass (run_lines (on s) l ++ rest) q)).0)
+
+-- answers of refusals that are the same are the same
+pub answers_alike : {A : Type 0} (v : Line) {w : Line} → (v ≡ none → ⊥) → v ≡ w → (a b : A) → answer v a ≡ answer w b
+answers_alike (Ok u) n q a b = absurd (n refl)
+answers_alike (Err e) n q a b = refused_answer q b

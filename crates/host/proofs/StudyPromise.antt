@@ -5,32 +5,30 @@ use mathlib.Core.Logic.{⊎_elim}
 use mathlib.Core.List.{List, [], ◌∷◌, ◌++◌}
 use Prim.Native.Nat.{ℕ}
 use lib.ListN.{length}
+use Rattle.refusals.specs.Refusals.{told, Line, none}
 use Rattle.laws.specs.Limits.{most_subareas}
 use Rattle.laws.proofs.Num.{below_or_not}
-use Rattle.refusals.specs.declared.Refusal.{Refusal}
 use Rattle.refusals.proofs.Orders.{some_old}
 use Rattle.subarea.specs.declared.Setup.{Setup}
 use Rattle.subarea.specs.Records.{half_of}
 use Rattle.checks.specs.Site.{Rows}
 use Rattle.checks.specs.Order.{records_good, list_lines, pond_lines}
 use Rattle.inflow.specs.Inflow.{inflow_of}
-use Rattle.study.specs.declared.StudyAnswer.{StudyAnswer}
-use Rattle.study.specs.declared.StudyAnswer.TheVariants.{Refused, Done}
-use Rattle.study.specs.Study.{routed, over_of, study_refusal, study_figures, study_answer, study_rows, study_refusal_in}
+use Rattle.study.specs.Study.{StudyAnswer, routed, over_of, study_refusal, study_answer, study_rows, study_refusal_in}
 use Rattle.answers.specs.Setups.{setup_of}
 use Rattle.answers.specs.StudyNumbers.{study_numbers_of}
 use Rattle.host.specs.declared.records.Subarea.{Subarea}
 use Rattle.host.specs.Flattened.{flat_of}
 use Rattle.host.specs.Gathered.{gathered, handed}
 use Rattle.host.proofs.Handing.{handed_flat, handed_none}
-use Rattle.host.proofs.Refused.{none_refused, many_refused, on, alike, refuses}
+use Rattle.host.proofs.Refused.{none_refused, many_refused, on, alike, refuses, answers_alike}
 
 -- lists that 5 refuses are refused alike, and nothing is written
 module _ (g : Setup) (rain p : List ℕ) (l : Rows) where
-  abbrev rest : List ℕ → List Refusal
+  abbrev rest : List ℕ → List Line
   rest s = list_lines g s ++ (pond_lines (half_of g) p ++ (over_of (on g rain p l s) l ∷ []))
 
-  not_done : (s : List ℕ) → records_good s ≡ false → (study_refusal (on g rain p l s) l).number ≡ 0 → ⊥
+  not_done : (s : List ℕ) → records_good s ≡ false → study_refusal (on g rain p l s) l ≡ none → ⊥
   unfolding study_refusal
   not_done s e = refuses g rain p l (rest s) s e
 
@@ -38,12 +36,9 @@ module _ (g : Setup) (rain p : List ℕ) (l : Rows) where
   unfolding study_refusal
   refusal_alike s u e f = alike g rain p l rest s u e f
 
-  answer_is : (s : List ℕ) → records_good s ≡ false → Refused (study_refusal (on g rain p l s) l) ≡ study_answer (on g rain p l s) l
-  unfolding study_answer
-  answer_is s e = some_old (study_refusal (on g rain p l s) l) (not_done s e) (Done (study_figures (on g rain p l s) l)) (Refused (study_refusal (on g rain p l s) l))
-
   answer_alike : (s u : List ℕ) → records_good s ≡ false → records_good u ≡ false → study_answer (on g rain p l s) l ≡ study_answer (on g rain p l u) l
-  answer_alike s u e f = sym (answer_is s e) ∙ ap Refused (refusal_alike s u e f) ∙ answer_is u f
+  unfolding study_answer
+  answer_alike s u e f = answers_alike (study_refusal (on g rain p l s) l) (not_done s e) (refusal_alike s u e f) _ _
 
   rows_kept : (s : List ℕ) → records_good s ≡ false → l ≡ study_rows (on g rain p l s) l
   unfolding study_rows
@@ -60,7 +55,7 @@ module _ (step first rule : ℕ) (rain pond inflow outflow storage s : List ℕ)
 
   abbrev pub StudyIs : ℕ → List ℕ → List ℕ → List ℕ → List ℕ → Type 0
   StudyIs r i o t z =
-      (r ≡ (study_refusal_in answer).number)
+      (r ≡ (told (study_refusal_in answer)).0)
       × ((z ≡ study_numbers_of answer) × (rows_of i o t ≡ study_rows (on (setup_of step first rule) rain pond (rows_of inflow outflow storage) s) (rows_of inflow outflow storage)))
 
 module _ (step first rule : ℕ) (rain pond inflow outflow storage : List ℕ) (r : ℕ) (i o t z : List ℕ) where
@@ -72,7 +67,7 @@ module _ (step first rule : ℕ) (rain pond inflow outflow storage : List ℕ) (
       let g = setup_of step first rule in
       let l = rows_of inflow outflow storage in
       let same = answer_alike g rain pond l s u e f in (
-        k.0 ∙ ap (λ (own : StudyAnswer). (study_refusal_in own).number) same,
+        k.0 ∙ ap (λ (own : StudyAnswer). (told (study_refusal_in own)).0) same,
         (k.1.0 ∙ ap study_numbers_of same, k.1.1 ∙ sym (rows_kept g rain pond l s e) ∙ rows_kept g rain pond l u f),
       )
 

@@ -1,6 +1,7 @@
 -- Demand 3 as a host has it, over what the promises of `bt_edit`, `bt_study` and those over records say: an edit beside a study of the altered list.
 use Rattle.std.specs.Prelude.{◌≡◌, List, ℕ, take}
 use Rattle.subarea.specs.declared.Setup.{Setup}
+use Rattle.refusals.specs.Refusals.{told}
 use Rattle.checks.specs.Site.{Site, Rows}
 use Rattle.study.specs.Study.{study_answer, study_rows, study_refusal_in}
 use Rattle.alter.specs.Altering.{altered_site}
@@ -21,7 +22,7 @@ abbrev pub EditBesideStudy : Site → Rows → ℕ → List ℕ → Site → Typ
 EditBesideStudy x l k r y =
     let a = edit_answer x l k r in
     let b = study_answer y l in
-    SameToHost (edit_refusal_in a).number (edit_numbers_of a) (edit_rows x l k r) (study_refusal_in b).number (study_numbers_of b) (study_rows y l)
+    SameToHost (told (edit_refusal_in a)).0 (edit_numbers_of a) (edit_rows x l k r) (told (study_refusal_in b)).0 (study_numbers_of b) (study_rows y l)
 
 -- a flat list: `bt_edit` beside `bt_study` of the altered list
 abbrev pub HostEditIsStudy : Site → Rows → ℕ → List ℕ → Type 0

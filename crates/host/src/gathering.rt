@@ -22,18 +22,16 @@ pub(crate) struct Flat {
 fn at_most(n: usize) -> usize
     ensures { result ≡ capped n }
 {
-    if n < limits::MOST_SUBAREAS {
-        n
-    } else {
-        limits::MOST_SUBAREAS
-    }
+    n.min(limits::MOST_SUBAREAS)
 }
 
+#[tactic(auto, unfolding(crate::specs::Gathered::blank))]
 fn zeros() -> Flat
     ensures { result ≡ blank }
 {
-    let numbers = [0u64; MOST_NUMBERS];
-    Flat { numbers }
+    Flat {
+        numbers: [0; MOST_NUMBERS],
+    }
 }
 
 // Three numbers, from a place on.
@@ -68,11 +66,9 @@ fn put_patches(to: &mut [u64; MOST_NUMBERS], at: usize, own: [Patch; curve::MOST
     requires { at + patch_width * most_patches ≤ most_numbers }
     ensures { to.new ≡ sets to.old at (patches_to most_patches own) }
 {
-    let mut k: usize = 0;
-    while k < curve::MOST_PATCHES {
+    for k in 0..curve::MOST_PATCHES {
         let p = own[k];
         put_three(to, at + curve::PATCH_WIDTH * k, p.cover, p.soil, p.area);
-        k += 1;
     }
 }
 
@@ -80,11 +76,8 @@ fn put_segments(to: &mut [u64; MOST_NUMBERS], at: usize, own: [Segment; travel::
     requires { at + segment_width * most_segments ≤ most_numbers }
     ensures { to.new ≡ sets to.old at (segments_to most_segments own) }
 {
-    let mut k: usize = 0;
-    while k < travel::MOST_SEGMENTS {
-        let g = own[k];
-        put_segment(to, at + travel::SEGMENT_WIDTH * k, g);
-        k += 1;
+    for k in 0..travel::MOST_SEGMENTS {
+        put_segment(to, at + travel::SEGMENT_WIDTH * k, own[k]);
     }
 }
 
@@ -109,12 +102,10 @@ fn put(flat: Flat, i: usize, own: Subarea) -> Flat
 pub(crate) fn gather(list: &[Subarea]) -> Flat
     ensures { result ≡ gathered list.now }
 {
-    let n = at_most(list.len());
     let mut flat = zeros();
-    let mut i = 0;
-    while i < n {
+    // By place: record i goes to the place of record i, and no more are read than a study takes.
+    for i in 0..at_most(list.len()) {
         flat = put(flat, i, list[i]);
-        i += 1;
     }
     flat
 }

@@ -1,5 +1,6 @@
 // Thin entries over a lent list of records: the list is gathered into flat numbers, and the engine works on those.
 ghost use Rattle.std.specs.Prelude.{◌≡◌};
+ghost use Rattle.refusals.specs.Refusals.{told};
 ghost use Rattle.checks.specs.Site.{found, left};
 ghost use Rattle.study.specs.Study.{study_answer, study_rows, study_refusal_in};
 ghost use Rattle.edit.specs.Edit.{edit_answer, edit_rows, edit_refusal_in, edit_values_in};
@@ -16,7 +17,7 @@ use subarea::Setup;
 
 // A patch: area in hundredths of an acre.
 #[repr(C)]
-#[derive(Clone, Copy)]
+#[derive(Clone, Copy, Debug, PartialEq, Eq)]
 pub struct Patch {
     pub cover: u64,
     pub soil: u64,
@@ -25,7 +26,7 @@ pub struct Patch {
 
 // A segment: length in feet; what stands third, fourth and fifth is by its kind, as travel's definitions say.
 #[repr(C)]
-#[derive(Clone, Copy)]
+#[derive(Clone, Copy, Debug, PartialEq, Eq)]
 pub struct Segment {
     pub kind: u64,
     pub length: u64,
@@ -36,7 +37,7 @@ pub struct Segment {
 
 // A subarea's record, laid out as its numbers are in a flat list.
 #[repr(C)]
-#[derive(Clone, Copy)]
+#[derive(Clone, Copy, Debug, PartialEq, Eq)]
 pub struct Subarea {
     pub patch_count: u64,
     pub patches: [Patch; curve::MOST_PATCHES],
@@ -70,7 +71,7 @@ fn study_of(
     storage: &mut [u64],
     answer: &mut [u64; 12],
 ) -> u64
-    ensures value { result ≡ (study_refusal_in (study_answer (list_site (setup_of step first rule) rain.now (handed flat n) pond.now) (found inflow.old outflow.old storage.old))).number }
+    ensures value { result ≡ (told (study_refusal_in (study_answer (list_site (setup_of step first rule) rain.now (handed flat n) pond.now) (found inflow.old outflow.old storage.old)))).0 }
     ensures answer_after { answer.new ≡ study_numbers_of (study_answer (list_site (setup_of step first rule) rain.now (handed flat n) pond.now) (found inflow.old outflow.old storage.old)) }
     ensures storage_value { left inflow.new outflow.new storage.new ≡ study_rows (list_site (setup_of step first rule) rain.now (handed flat n) pond.now) (found inflow.old outflow.old storage.old) }
 {
@@ -94,7 +95,7 @@ pub fn bt_study_records(
     storage: &mut [u64],
     answer: &mut [u64; 12],
 ) -> u64
-    ensures value { result ≡ (study_refusal_in (study_answer (list_site (setup_of step first rule) rain.now (flat_of list.now) pond.now) (found inflow.old outflow.old storage.old))).number }
+    ensures value { result ≡ (told (study_refusal_in (study_answer (list_site (setup_of step first rule) rain.now (flat_of list.now) pond.now) (found inflow.old outflow.old storage.old)))).0 }
     ensures answer_after { answer.new ≡ study_numbers_of (study_answer (list_site (setup_of step first rule) rain.now (flat_of list.now) pond.now) (found inflow.old outflow.old storage.old)) }
     ensures storage_value { left inflow.new outflow.new storage.new ≡ study_rows (list_site (setup_of step first rule) rain.now (flat_of list.now) pond.now) (found inflow.old outflow.old storage.old) }
 {
@@ -131,7 +132,7 @@ fn edit_of(
     answer: &mut [u64; 13],
     changes: &mut [i64; 2],
 ) -> u64
-    ensures value { result ≡ (edit_refusal_in (edit_answer (list_site (setup_of step first rule) rain.now (handed flat n) pond.now) (found inflow.old outflow.old storage.old) place fresh.now)).number }
+    ensures value { result ≡ (told (edit_refusal_in (edit_answer (list_site (setup_of step first rule) rain.now (handed flat n) pond.now) (found inflow.old outflow.old storage.old) place fresh.now))).0 }
     ensures answer_after { answer.new ≡ edit_numbers_of (edit_answer (list_site (setup_of step first rule) rain.now (handed flat n) pond.now) (found inflow.old outflow.old storage.old) place fresh.now) }
     ensures changes_after { changes.new ≡ changes_of (edit_values_in (edit_answer (list_site (setup_of step first rule) rain.now (handed flat n) pond.now) (found inflow.old outflow.old storage.old) place fresh.now)) }
     ensures storage_value { left inflow.new outflow.new storage.new ≡ edit_rows (list_site (setup_of step first rule) rain.now (handed flat n) pond.now) (found inflow.old outflow.old storage.old) place fresh.now }
@@ -169,7 +170,7 @@ pub fn bt_edit_records(
     answer: &mut [u64; 13],
     changes: &mut [i64; 2],
 ) -> u64
-    ensures value { result ≡ (edit_refusal_in (edit_answer (list_site (setup_of step first rule) rain.now (flat_of list.now) pond.now) (found inflow.old outflow.old storage.old) place fresh.now)).number }
+    ensures value { result ≡ (told (edit_refusal_in (edit_answer (list_site (setup_of step first rule) rain.now (flat_of list.now) pond.now) (found inflow.old outflow.old storage.old) place fresh.now))).0 }
     ensures answer_after { answer.new ≡ edit_numbers_of (edit_answer (list_site (setup_of step first rule) rain.now (flat_of list.now) pond.now) (found inflow.old outflow.old storage.old) place fresh.now) }
     ensures changes_after { changes.new ≡ changes_of (edit_values_in (edit_answer (list_site (setup_of step first rule) rain.now (flat_of list.now) pond.now) (found inflow.old outflow.old storage.old) place fresh.now)) }
     ensures storage_value { left inflow.new outflow.new storage.new ≡ edit_rows (list_site (setup_of step first rule) rain.now (flat_of list.now) pond.now) (found inflow.old outflow.old storage.old) place fresh.now }

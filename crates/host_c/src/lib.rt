@@ -3,6 +3,7 @@
 #![tactic(auto)]
 
 ghost use Rattle.std.specs.Prelude.{◌≡◌};
+ghost use Rattle.refusals.specs.Refusals.{told};
 ghost use Rattle.checks.specs.Site.{site, basin, found, left};
 ghost use Rattle.inflow.specs.Inflow.{inflow_refusal, inflow_after};
 ghost use Rattle.textbook.specs.Textbook.{textbook_refusal, textbook_after};
@@ -41,7 +42,7 @@ pub extern "C" fn bt_study(
     storage: &mut [u64],
     answer: &mut [u64; 12],
 ) -> u64
-    ensures value { result ≡ (study_refusal_in (study_answer (site (setup_of step first rule) rain.now subareas.now pond.now) (found inflow.old outflow.old storage.old))).number }
+    ensures value { result ≡ (told (study_refusal_in (study_answer (site (setup_of step first rule) rain.now subareas.now pond.now) (found inflow.old outflow.old storage.old)))).0 }
     ensures answer_after { answer.new ≡ study_numbers_of (study_answer (site (setup_of step first rule) rain.now subareas.now pond.now) (found inflow.old outflow.old storage.old)) }
     ensures storage_value { left inflow.new outflow.new storage.new ≡ study_rows (site (setup_of step first rule) rain.now subareas.now pond.now) (found inflow.old outflow.old storage.old) }
 {
@@ -68,7 +69,7 @@ pub extern "C" fn bt_edit(
     answer: &mut [u64; 13],
     changes: &mut [i64; 2],
 ) -> u64
-    ensures value { result ≡ (edit_refusal_in (edit_answer (site (setup_of step first rule) rain.now subareas.now pond.now) (found inflow.old outflow.old storage.old) place fresh.now)).number }
+    ensures value { result ≡ (told (edit_refusal_in (edit_answer (site (setup_of step first rule) rain.now subareas.now pond.now) (found inflow.old outflow.old storage.old) place fresh.now))).0 }
     ensures answer_after { answer.new ≡ edit_numbers_of (edit_answer (site (setup_of step first rule) rain.now subareas.now pond.now) (found inflow.old outflow.old storage.old) place fresh.now) }
     ensures changes_after { changes.new ≡ changes_of (edit_values_in (edit_answer (site (setup_of step first rule) rain.now subareas.now pond.now) (found inflow.old outflow.old storage.old) place fresh.now)) }
     ensures storage_value { left inflow.new outflow.new storage.new ≡ edit_rows (site (setup_of step first rule) rain.now subareas.now pond.now) (found inflow.old outflow.old storage.old) place fresh.now }
@@ -92,7 +93,7 @@ pub extern "C" fn bt_mark(
     answer: &mut [u64; 3],
     values: &mut [f64; 5],
 ) -> u64
-    ensures value { result ≡ (mark_refusal_in (mark_answer step first pond.now (found inflow.now outflow.now storage.now) row)).number }
+    ensures value { result ≡ (told (mark_refusal_in (mark_answer step first pond.now (found inflow.now outflow.now storage.now) row))).0 }
     ensures answer_after { answer.new ≡ mark_numbers_of (mark_answer step first pond.now (found inflow.now outflow.now storage.now) row) }
     ensures values_after { values.new ≡ mark_values_in (mark_answer step first pond.now (found inflow.now outflow.now storage.now) row) }
 {
@@ -115,7 +116,7 @@ pub extern "C" fn bt_inflow(
     storage: &[u64],
     answer: &mut [u64; 2],
 ) -> u64
-    ensures value { result ≡ (inflow_refusal (basin (setup_of step first rule) rain.now subareas.now) (found inflow.old outflow.now storage.now)).number }
+    ensures value { result ≡ (told (inflow_refusal (basin (setup_of step first rule) rain.now subareas.now) (found inflow.old outflow.now storage.now))).0 }
     ensures answer_after { answer.new ≡ refusal_numbers (inflow_refusal (basin (setup_of step first rule) rain.now subareas.now) (found inflow.old outflow.now storage.now)) }
     ensures inflow_after { inflow.new ≡ inflow_after (basin (setup_of step first rule) rain.now subareas.now) (found inflow.old outflow.now storage.now) }
 {
@@ -137,7 +138,7 @@ pub extern "C" fn bt_textbook(
     storage: &[u64],
     answer: &mut [u64; 2],
 ) -> u64
-    ensures value { result ≡ (textbook_refusal (basin (setup_of step first rule) rain.now subareas.now) (found inflow.old outflow.now storage.now)).number }
+    ensures value { result ≡ (told (textbook_refusal (basin (setup_of step first rule) rain.now subareas.now) (found inflow.old outflow.now storage.now))).0 }
     ensures answer_after { answer.new ≡ refusal_numbers (textbook_refusal (basin (setup_of step first rule) rain.now subareas.now) (found inflow.old outflow.now storage.now)) }
     ensures inflow_after { inflow.new ≡ textbook_after (basin (setup_of step first rule) rain.now subareas.now) (found inflow.old outflow.now storage.now) }
 {
@@ -160,7 +161,7 @@ pub extern "C" fn bt_study_records(
     storage: &mut [u64],
     answer: &mut [u64; 12],
 ) -> u64
-    ensures value { result ≡ (study_refusal_in (study_answer (list_site (setup_of step first rule) rain.now (flat_of list.now) pond.now) (found inflow.old outflow.old storage.old))).number }
+    ensures value { result ≡ (told (study_refusal_in (study_answer (list_site (setup_of step first rule) rain.now (flat_of list.now) pond.now) (found inflow.old outflow.old storage.old)))).0 }
     ensures answer_after { answer.new ≡ study_numbers_of (study_answer (list_site (setup_of step first rule) rain.now (flat_of list.now) pond.now) (found inflow.old outflow.old storage.old)) }
     ensures storage_value { left inflow.new outflow.new storage.new ≡ study_rows (list_site (setup_of step first rule) rain.now (flat_of list.now) pond.now) (found inflow.old outflow.old storage.old) }
 {
@@ -186,7 +187,7 @@ pub extern "C" fn bt_edit_records(
     answer: &mut [u64; 13],
     changes: &mut [i64; 2],
 ) -> u64
-    ensures value { result ≡ (edit_refusal_in (edit_answer (list_site (setup_of step first rule) rain.now (flat_of list.now) pond.now) (found inflow.old outflow.old storage.old) place fresh.now)).number }
+    ensures value { result ≡ (told (edit_refusal_in (edit_answer (list_site (setup_of step first rule) rain.now (flat_of list.now) pond.now) (found inflow.old outflow.old storage.old) place fresh.now))).0 }
     ensures answer_after { answer.new ≡ edit_numbers_of (edit_answer (list_site (setup_of step first rule) rain.now (flat_of list.now) pond.now) (found inflow.old outflow.old storage.old) place fresh.now) }
     ensures changes_after { changes.new ≡ changes_of (edit_values_in (edit_answer (list_site (setup_of step first rule) rain.now (flat_of list.now) pond.now) (found inflow.old outflow.old storage.old) place fresh.now)) }
     ensures storage_value { left inflow.new outflow.new storage.new ≡ edit_rows (list_site (setup_of step first rule) rain.now (flat_of list.now) pond.now) (found inflow.old outflow.old storage.old) place fresh.now }

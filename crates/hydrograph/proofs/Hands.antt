@@ -12,7 +12,7 @@ use Rattle.laws.specs.Listed.{rows_from}
 use Rattle.laws.specs.Filled.{Filled}
 use Rattle.laws.proofs.Num.{below_or_not}
 use Rattle.laws.proofs.Sums.{sum_same, sum_most, sum_zeros, sum_split}
-use Rattle.laws.proofs.Fill.{filled_none, filled_more}
+use Rattle.laws.proofs.Fill.{filled_more}
 use Rattle.laws.proofs.Listed.{rows_length, rows_at}
 use Rattle.hydrograph.specs.InflowRows.{line_at, weight_at, weights, total_weight}
 use Rattle.hydrograph.specs.Needs.{TimingOk, PenOk, PenReady, hand, weighed, Below}
@@ -45,27 +45,10 @@ module _ (Tp D done : ℕ) (timing : TimingOk D Tp) where
   unfolding weighed
   pen_weighed g pen ok l e = rw (lt-ltb g (weights Tp D) l) (pen_weight Tp D pen ok (g + 1) e)
 
-  -- where the loop begins: the pen is a step before the first weight
-  pub filling_start : (list : List ℕ) (pen : Pen) → length list ≡ hand → pen.time ≡ 10 * (done * D) → PenReady Tp D pen → done < weights Tp D → Filling Tp D done list pen 0
-  filling_start list pen long e ready l =
-      let first : min (done + 0) (weights Tp D) ≡ done = omega arith in
-      record {
-        at = omega arith;
-        long = long;
-        here = rw first e;
-        ready = ready;
-        line = λ k. absurd (omega arith);
-        filled = filled_none _ list;
-      }
-
   module _ {list : List ℕ} {pen : Pen} {i : ℕ} (so : Filling Tp D done list pen i) where
     -- where another weight comes, the pen is at the one before it
     pub before_next : done + i < weights Tp D → pen.time ≡ 10 * ((done + i) * D)
     before_next l = let last : min (done + i) (weights Tp D) ≡ done + i = omega arith in rw last at so.here
-
-    -- its time is in time
-    pub next_early : done + i < weights Tp D → pen.time + 10 * D ≤ 50 * Tp
-    next_early l = omega (arith, before_next l, in_time D Tp timing (done + i + 1) (omega arith))
 
     -- the pen a step on gives it
     pub next_weight : done + i < weights Tp D → (new : Pen) → new.time ≡ pen.time + 10 * D → PenOk Tp D new → Next Tp D done new i new.weight

@@ -1,23 +1,24 @@
 -- The lines of the shape: its table's rules, each by one computed test, and where a time lies. Assumes nothing.
 use mathlib.Core.Path.{◌≡◌, refl, sym, ap, ◌∙◌}
-use mathlib.Core.Bool.{Bool, ◌&&◌}
+use mathlib.Core.Bool.{Bool}
 use mathlib.Core.Logic.{⊎_elim}
 use Prim.Native.Nat.{ℕ, ◌+◌, ◌-◌, ◌*◌, ◌≤◌, ◌<◌, min}
 use native.Mathlib.Nat.{eq-zero-or-pos, eq-or-lt_of_le, mul-le-mul, mul-le-mul_left, mul-le-mul_right, div-le_of_le-mul, le-div_iff_mul-le, mul-sub}
 use native.Mathlib.Omega.{arith}
 use borrow.Author.Tests.{leb-true, le-leb, lt-leb, eqb-true, ltb-true, ltb-false}
 use lib.Dec.{leb, ltb, eqb}
+use mir.Val.{Fits}
+use mir.Syntax.{w64}
 use Rattle.laws.specs.Pick.{pick}
 use Rattle.laws.specs.Scan.{scan}
-use Rattle.laws.proofs.Num.{below_or_not}
-use Rattle.laws.proofs.Tests.{both_left, both_right}
+use Rattle.laws.proofs.Num.{below_or_not, mul_fits}
 use Rattle.laws.proofs.Scans.{scan_all, scan_bad, scan_before, scan_most}
 use Rattle.hydrograph.specs.InflowRows.{time, ratio, line_at, on_line, weights}
 use Rattle.hydrograph.specs.Needs.{LineOk, hand}
 
--- a knot's time is above the one before, by 5 at most
+-- a knot's time is above the one before
 abbrev rises : ℕ → Bool
-rises i = ltb (time i) (time (i + 1)) && leb (time (i + 1)) (time i + 5)
+rises i = ltb (time i) (time (i + 1))
 
 all_rise : scan rises 32 0 ≡ 32
 unfolding scan time
@@ -33,10 +34,7 @@ unfolding scan ratio
 all_high = refl
 
 pub time_up : (i : ℕ) → i < 32 → time i < time (i + 1)
-time_up i l = ltb-true (time i) (time (i + 1)) (both_left (ltb (time i) (time (i + 1))) (leb (time (i + 1)) (time i + 5)) (scan_all rises 32 0 all_rise i (omega arith) (omega arith)))
-
-pub time_near : (i : ℕ) → i < 32 → time (i + 1) ≤ time i + 5
-time_near i l = leb-true (time (i + 1)) (time i + 5) (both_right (ltb (time i) (time (i + 1))) (leb (time (i + 1)) (time i + 5)) (scan_all rises 32 0 all_rise i (omega arith) (omega arith)))
+time_up i l = ltb-true (time i) (time (i + 1)) (scan_all rises 32 0 all_rise i (omega arith) (omega arith))
 
 pub ratio_most : (i : ℕ) → i < 33 → ratio i ≤ 1000
 ratio_most i l = leb-true (ratio i) 1000 (scan_all (λ i. leb (ratio i) 1000) 33 0 all_low i (omega arith) (omega arith))
@@ -50,6 +48,10 @@ all_within = refl
 
 pub time_most : (i : ℕ) → i < 33 → time i ≤ 50
 time_most i l = leb-true (time i) 50 (scan_all (λ i. leb (time i) 50) 33 0 all_within i (omega arith) (omega arith))
+
+-- so that no product of one and a Tp wraps
+pub knot_fits : {a Tp : ℕ} → a ≤ 50 → Tp ≤ 400000 → Fits w64 (a * Tp)
+knot_fits l m = mul_fits 50 400000 l m tt
 
 -- knots stand 1 apart to 20, 2 apart to 40, then 5
 abbrev spaced : ℕ → ℕ

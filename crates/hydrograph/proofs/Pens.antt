@@ -82,10 +82,6 @@ pen_starts Tp D t i a b y0 y1 pace early on apart ea eb e0 e1 ok =
       pace_ok = rw (e0, e1) at ok;
     }
 
--- a pen that is not set down yet: its line has ended, and is at or before the one that its next step leads to
-pub above_ready : (Tp D : ℕ) (pen : Pen) → 0 < D → pen.end ≡ 0 → pen.line ≤ line_at Tp (pen.time + 10 * D) → PenReady Tp D pen
-above_ready Tp D pen some ended l = record { on = λ h. absurd (omega arith); past = l }
-
 module _ (Tp D : ℕ) (pen : Pen) (ok : PenOk Tp D pen) where
   -- one that is set down can go on
   pub pen_ready : PenReady Tp D pen

@@ -21,6 +21,7 @@ pub const ENTRIES: usize = limits::MOST_ROWS + 1;
 
 // The shape's times, in tenths of the time to peak: knots stand 1 apart to 20, 2 apart to 40, then 5. Worked out, since a
 // table that is read for each knot of each weight would be laid on the stack as often.
+#[tactic(auto, using(crate::proofs::Lines::time_near_first, crate::proofs::Lines::time_further, crate::proofs::Lines::time_far))]
 fn time_at(i: usize) -> u64
     requires { i < 33 }
     ensures { result ≡ time i }
@@ -37,6 +38,7 @@ fn time_at(i: usize) -> u64
 
 // The shape's ratios, in thousandths of the peak: 0 at its first knot and at its last. Told by a match, since a table would be
 // laid on the stack wherever it is read.
+#[tactic(auto, unfolding(crate::specs::InflowRows::ratio, crate::specs::InflowRows::shape))]
 fn ratio_at(i: usize) -> u64
     requires { i < 33 }
     ensures { result ≡ ratio i }
@@ -77,22 +79,31 @@ fn ratio_at(i: usize) -> u64
     }
 }
 
-// The line between knots on which a time, in tenths of a second, lies.
+// When knot i stands, in tenths of a second.
+#[tactic(auto, using(crate::proofs::Lines::time_most, crate::proofs::Lines::knot_fits))]
+fn knot_at(peak: u64, i: usize) -> u64
+    requires { (peak ≤ 400000) × (i < 33) }
+    ensures { result ≡ time i * peak }
+{
+    time_at(i) * peak
+}
+
+// The line between knots on which a time, in tenths of a second, lies. Not by `position`: what its closure asks of the knots did
+// not prove.
 fn line_at(peak: u64, t: u64) -> usize
     requires { peak ≤ 400000 }
     ensures { result ≡ line_at peak t }
 {
-    let mut i = 0;
-    while i < 32 {
-        if t <= time_at(i + 1) * peak {
+    for i in 0..32 {
+        if t <= knot_at(peak, i + 1) {
             return i;
         }
-        i += 1;
     }
-    i
+    32
 }
 
 // 1000 times the straight line through (a, y0) and (b, y1) at t, with no sign to mind.
+#[tactic(auto, unfolding(crate::specs::InflowRows::on_line))]
 fn on_line(t: u64, a: u64, b: u64, y0: u64, y1: u64) -> u64
     requires { LineOk t a b y0 y1 }
     ensures { result ≡ on_line t a b y0 y1 }
@@ -109,20 +120,20 @@ pub fn weight(peak: u64, step: u64, j: u64) -> u64
     let i = line_at(peak, t);
     on_line(
         t,
-        time_at(i) * peak,
-        time_at(i + 1) * peak,
+        knot_at(peak, i),
+        knot_at(peak, i + 1),
         ratio_at(i),
         ratio_at(i + 1),
     )
 }
 
-// The line on which a time lies, looked for from a line at or before it.
+// The line on which a time lies, looked for from a line at or before it: a time ends this loop, no count, so no `for` is plainer.
 fn line_from(peak: u64, t: u64, from: usize) -> usize
     requires { (peak ≤ 400000) × ((t ≤ 50 * peak) × (from ≤ line_at peak t)) }
     ensures { result ≡ line_at peak t }
 {
     let mut i = from;
-    while time_at(i + 1) * peak < t {
+    while knot_at(peak, i + 1) < t {
         i += 1;
     }
     i
@@ -130,7 +141,7 @@ fn line_from(peak: u64, t: u64, from: usize) -> usize
 
 // What a step adds to the value on a line, as quotient and rest by the line's length: `up` lengths and `more`, less `down`
 // lengths, so that a line that falls has no sign to mind.
-#[derive(Clone, Copy)]
+#[derive(Clone, Copy, Debug, Default, PartialEq, Eq)]
 struct Pace {
     up: u64,
     down: u64,
@@ -143,11 +154,7 @@ fn pace_on(left: u64, length: u64, step: u64, y0: u64, y1: u64) -> Pace
     ensures { PaceOk left length step y0 y1 result }
 {
     if left < 10 * step {
-        return Pace {
-            up: 0,
-            down: 0,
-            more: 0,
-        };
+        return Pace::default();
     }
     if y0 <= y1 {
         let rise = 10000 * step * (y1 - y0);
@@ -167,7 +174,7 @@ fn pace_on(left: u64, length: u64, step: u64, y0: u64, y1: u64) -> Pace
 
 // A pen on the shape's lines: the time of the weight it gives and where its line ends, in tenths of a second; the weight and
 // what its division left over, of 1000 times the line's value times the line's length; and the line's pace.
-#[derive(Clone, Copy)]
+#[derive(Clone, Copy, Debug, PartialEq, Eq)]
 struct Pen {
     time: u64,
     end: u64,
@@ -184,8 +191,8 @@ fn pen_at(peak: u64, step: u64, t: u64, from: usize) -> Pen
     ensures { (result.time ≡ t) × PenOk peak step result }
 {
     let line = line_from(peak, t, from);
-    let low = time_at(line) * peak;
-    let end = time_at(line + 1) * peak;
+    let low = knot_at(peak, line);
+    let end = knot_at(peak, line + 1);
     let y0 = ratio_at(line);
     let y1 = ratio_at(line + 1);
     let length = end - low;
@@ -242,11 +249,7 @@ fn pen_above(step: u64, done: usize, line: usize) -> Pen
         weight: 0,
         rest: 0,
         length: 1,
-        pace: Pace {
-            up: 0,
-            down: 0,
-            more: 0,
-        },
+        pace: Pace::default(),
     }
 }
 
@@ -265,29 +268,26 @@ pub fn fill_weights(
     ensures { (result ≡ line_at peak (10 * (min (done + hand) (weights peak step) * step))) × (list.new ≡ rows_from (weighed peak step) done hand) }
 {
     let mut pen = pen_above(step, done, from);
-    let mut i = 0;
-    while i < HAND {
+    for i in 0..HAND {
         let mut next = 0;
         if done + i < count {
             pen = pen_next(pen, peak, step);
             next = pen.weight;
         }
         list[i] = next as u32;
-        i += 1;
     }
     pen.line
 }
 
 // The sum of a hand of weights.
+#[tactic(auto, unfolding(laws::specs::Sum::sum_to))]
 fn sum_of_hand(list: &[u32; HAND]) -> u64
     requires { Below list.now hand 1000000 }
     ensures { result ≡ sum_to (λ (i : ℕ). get_or list.now i 0) hand }
 {
     let mut sum = 0;
-    let mut i = 0;
-    while i < HAND {
-        sum += laws::wide(list[i]);
-        i += 1;
+    for i in 0..HAND {
+        sum += u64::from(list[i]);
     }
     sum
 }
@@ -302,6 +302,7 @@ pub fn total_weight(peak: u64, step: u64) -> u64
     let mut line = 0;
     let mut total = 0;
     let mut done = 0;
+    // As the hands of `sums` go, which a `step_by` makes slower.
     while done < count {
         line = fill_weights(peak, step, count, done, line, &mut list);
         total += sum_of_hand(&list);
@@ -311,6 +312,7 @@ pub fn total_weight(peak: u64, step: u64) -> u64
 }
 
 // The first n weights, each times the depth as many places before k, summed.
+#[tactic(auto, unfolding(laws::specs::Sum::sum_to))]
 pub fn dot(
     weights: &[u32; limits::MOST_WEIGHTS],
     depths: &[u32; ENTRIES],
@@ -321,15 +323,14 @@ pub fn dot(
     ensures { result ≡ sum_to (product weights.now depths.now k) n }
 {
     let mut sum = 0;
-    let mut i = 0;
-    while i < n {
-        sum += laws::wide(weights[i]) * laws::wide(depths[k - i]);
-        i += 1;
+    for i in 0..n {
+        sum += u64::from(weights[i]) * u64::from(depths[k - i]);
     }
     sum
 }
 
 // The volume of a depth on an area.
+#[tactic(auto, unfolding(crate::specs::InflowRows::volume_of))]
 pub fn volume(area: u64, depth: u64) -> u64
     requires { (area ≤ most_area) × (depth ≤ most_depth) }
     ensures { result ≡ volume_of area depth }
@@ -338,6 +339,7 @@ pub fn volume(area: u64, depth: u64) -> u64
 }
 
 // Refusal 9 of one Tc, as a test that passes.
+#[tactic(auto, unfolding(crate::specs::InflowRows::concentration_good))]
 pub fn concentration_good(concentration: u64) -> bool
     ensures { result ≡ concentration_good concentration }
 {
@@ -345,6 +347,7 @@ pub fn concentration_good(concentration: u64) -> bool
 }
 
 // Refusal 10: the step is not above the time to peak.
+#[tactic(auto, unfolding(crate::specs::InflowRows::peak_good))]
 pub fn peak_good(step: u64, concentration: u64) -> bool
     requires { TimeOk concentration }
     ensures { result ≡ peak_good step concentration }
@@ -353,6 +356,7 @@ pub fn peak_good(step: u64, concentration: u64) -> bool
 }
 
 // Refusal 11: the shape has no more weights than there is room for.
+#[tactic(auto, using(travel::proofs::Times::peak_most), unfolding(crate::specs::InflowRows::weights_good))]
 pub fn weights_good(step: u64, concentration: u64) -> bool
     requires { (step ≤ most_step) × TimeOk concentration }
     ensures { result ≡ weights_good step concentration }

@@ -1,10 +1,9 @@
--- Document 01, 'Inflow rows': the parts of the subareas, summed row by row; and the inflow rows alone, without a pond.
+-- docs/SCOPE.md, 'Inflow rows': the parts of the subareas, summed row by row; and the inflow rows alone, without a pond.
 use Rattle.std.specs.Prelude.{List, ℕ}
 use Rattle.laws.specs.Sum.{sum_to}
 use Rattle.laws.specs.Listed.{rows_from}
 use Rattle.hydrograph.specs.InflowRows.{part}
-use Rattle.refusals.specs.declared.Refusal.{Refusal}
-use Rattle.refusals.specs.Refusals.{first_refusal, after}
+use Rattle.refusals.specs.Refusals.{Line, first_refusal, after}
 use Rattle.subarea.specs.declared.Setup.{Setup}
 use Rattle.subarea.specs.Records.{records_in, record_at, area_of, curve_tenths, peak_of}
 use Rattle.checks.specs.Site.{Site, Rows, asked}
@@ -27,7 +26,7 @@ abbrev pub inflow_of : Site → Rows → List ℕ
 inflow_of x l = inflow_rows x.setup x.rain x.subareas (asked l)
 
 -- the inflow rows alone: the first refusal in the order 1 to 11, with 20 after 2 and 19 after 3, and the inflow list afterwards
-unfoldable pub inflow_refusal : Site → Rows → Refusal
+unfoldable pub inflow_refusal : Site → Rows → Line
 inflow_refusal x l = first_refusal (inflow_lines x l)
 
 abbrev pub inflow_after : Site → Rows → List ℕ

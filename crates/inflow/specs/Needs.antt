@@ -1,4 +1,4 @@
--- A record's numbers, as contracts name them; no rule of document 01 is here.
+-- A record's numbers, as contracts name them; no rule of docs/SCOPE.md is here.
 use Rattle.std.specs.Prelude.{List, ℕ, ◌-◌, length, get_or}
 use Rattle.runoff.specs.RunoffDepth.{depth}
 use Rattle.hydrograph.specs.InflowRows.{total_weight, volume_of}

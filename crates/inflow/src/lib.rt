@@ -61,27 +61,24 @@ fn add_records(setup: Setup, rain: &[u64], subareas: &[u64], rows: &mut [u64])
     requires { ListOk setup subareas.now × (RainOk rain.now × ((length rows.old ≤ most_rows) × (rows.old ≡ rows_from (λ (k : ℕ). 0) 1 (length rows.old)))) }
     ensures { rows.new ≡ inflow_rows setup rain.now subareas.now (length rows.old) }
 {
-    let n = subareas.len() / subarea::WIDTH;
-    let mut i = 0;
-    while i < n {
-        let a = subarea::WIDTH * i;
-        let e = a + subarea::WIDTH;
-        add_record(setup, rain, &subareas[a..e], rows);
-        i += 1;
+    for own in subarea::records(subareas) {
+        add_record(setup, rain, own, rows);
     }
 }
 
 // Writes the inflow rows over whatever the list had.
+#[tactic(auto, using(laws::proofs::Listed::zeros_all))]
 pub fn fill(setup: Setup, rain: &[u64], subareas: &[u64], rows: &mut [u64])
     requires { ListOk setup subareas.now × (RainOk rain.now × (length rows.old ≤ most_rows)) }
     ensures { rows.new ≡ inflow_rows setup rain.now subareas.now (length rows.old) }
 {
-    laws::clear(rows);
+    rows.fill(0);
     add_records(setup, rain, subareas, rows);
 }
 
 // The inflow rows alone: refusals 1 to 11, with 20 after 2 and 19 after 3, and no pond. Of the outflow and storage lists only
 // the lengths are read.
+#[tactic(auto, unfolding(crate::specs::Inflow::inflow_refusal))]
 pub fn run(
     setup: Setup,
     rain: &[u64],
@@ -89,13 +86,11 @@ pub fn run(
     rows: &mut [u64],
     outflow: &[u64],
     storage: &[u64],
-) -> Refusal
+) -> Result<(), Refusal>
     ensures value { result ≡ inflow_refusal (basin setup rain.now subareas.now) (found rows.old outflow.now storage.now) }
     ensures rows_after { rows.new ≡ inflow_after (basin setup rain.now subareas.now) (found rows.old outflow.now storage.now) }
 {
-    let v = checks::inflow_checks(setup, rain, subareas, rows, outflow, storage);
-    if v.number == 0 {
-        fill(setup, rain, subareas, rows);
-    }
-    v
+    checks::inflow_checks(setup, rain, subareas, rows, outflow, storage)?;
+    fill(setup, rain, subareas, rows);
+    Ok(())
 }

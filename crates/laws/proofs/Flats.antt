@@ -1,18 +1,21 @@
 -- A flat list passes its test exactly where its records are whole, few enough and good. Assumes nothing.
-use mathlib.Core.Path.{◌≡◌}
+use mathlib.Core.Path.{◌≡◌, sym, ap}
 use mathlib.Core.Bool.{Bool, true, ◌&&◌}
-use mathlib.Core.List.{List}
-use Prim.Native.Nat.{ℕ, ◌%◌}
-use lib.ListN.{length}
+use mathlib.Core.List.{List, []}
+use Prim.Native.Nat.{ℕ, ◌<◌, ◌%◌}
+use lib.ListN.{length, get_or}
 use lib.Dec.{eqb}
 use native.Mathlib.Nat.{div-add-mod}
 use native.Mathlib.Omega.{arith}
 use borrow.Author.Tests.{eqb-true, eq-eqb}
+use Rattle.std.specs.Simd.{first_chunks}
+use Rattle.std.specs.List.{list_all}
 use Rattle.laws.specs.Scan.{scan}
 use Rattle.laws.specs.Within.{within}
 use Rattle.laws.specs.Flat.{count, flat_good, FlatOk}
 use Rattle.laws.proofs.Tests.{both_left, both_right, both_true, kept, keeps}
 use Rattle.laws.proofs.Scans.{scan_all, scan_whole}
+use Rattle.laws.proofs.Chunks.{chunks_length, all_places}
 
 module _ (w most : ℕ) (good : ℕ → Bool) (l : List ℕ) where
   -- a list that passes is as it should be
@@ -39,3 +42,12 @@ module _ (w most : ℕ) (good : ℕ → Bool) (l : List ℕ) where
   flat_good_lem ok =
       both_true (eq-eqb (length l % w) 0 (omega (arith, div-add-mod (length l) w, ok.whole)))
       (both_true (keeps 1 (count w l) most ok.least ok.most) (eq-eqb _ _ (scan_whole good (count w l) ok.each)))
+
+  -- the same over the records that `as_chunks` gives
+  pub flat_chunks : (test : List ℕ → Bool) → ((i : ℕ) → i < count w l → test (get_or (first_chunks w (count w l) l) i []) ≡ good i)
+      → flat_good w most good l ≡ (eqb (length l % w) 0 && (within 1 (count w l) most && list_all test (first_chunks w (count w l) l)))
+  unfolding flat_good
+  flat_chunks test same =
+      let many = chunks_length w (count w l) l in
+      let each = all_places [] test good (first_chunks w (count w l) l) (λ i h. same i (rw many at h)) in
+      ap (λ (b : Bool). eqb (length l % w) 0 && (within 1 (count w l) most && b)) (sym (rw many at each))

@@ -1,8 +1,10 @@
 pub mod Num
 pub mod Tests
 pub mod Scans
+pub mod Places
 pub mod Sums
 pub mod Laying
+pub mod Chunks
 pub mod Fill
 pub mod Fronts
 pub mod Listed

@@ -7,7 +7,7 @@ use native.Mathlib.Nat.{add-zero, le_of_suc-le-suc}
 use native.Mathlib.Omega.{arith}
 use borrow.Author.Tests.{eq-eqb, ne_eqb}
 use lib.Dec.{eqb}
-use lib.ListN.{length, get_or, take, drop, set, length-set, length-drop}
+use lib.ListN.{length, get_or, take, drop, set, replicate, length-set, length-drop}
 use lib.Seq.{ext_get_or, get_or-take, get_or-drop, length-take-le, drop-drop, drop-set-lt, get_or-set_same, get_or-set_other}
 use Rattle.laws.specs.Pick.{pick}
 use Rattle.laws.specs.Sum.{sum_to}
@@ -61,6 +61,12 @@ zeros_one n i l =
 pub zeros_none : (k n i : ℕ) → n ≤ i → rows_from (λ (j : ℕ). 0) k (n - i) ≡ []
 unfolding rows_from
 zeros_none k n i l = let e : n - i ≡ 0 = omega arith in rw e
+
+-- a list that is filled with zeros is rows of zeros
+pub zeros_all : (k n : ℕ) → replicate n 0 ≡ rows_from (λ (j : ℕ). 0) k n
+unfolding rows_from
+zeros_all k zero = refl
+zeros_all k (suc n) = ap (λ (l : List ℕ). 0 ∷ l) (zeros_all (k + 1) n)
 
 -- what is added leaves as many rows
 pub plus_length : (f : ℕ → ℕ) (k : ℕ) (vs : List ℕ) → length (plus f k vs) ≡ length vs

@@ -12,6 +12,12 @@ OneAnswer {n} ps r post =
     (κs : Lfts n) (args : Dens κs ps) (x y : (res_t r κs).Denot) (s t : AtExit (ended_of n ps r) κs)
     → post κs args x s → post κs args y t → x ≡ y
 
+-- the same of what a caller reads of the results, where they carry proofs, of which nothing is read
+abbrev pub OneReading : {n : ℕ} (ps : List (ParamKind n)) (r : ResultKind n) {L : Type 0} → ((κs : Lfts n) → (res_t r κs).Denot → L) → Out n ps r → Type 0
+OneReading {n} ps r read post =
+    (κs : Lfts n) (args : Dens κs ps) (x y : (res_t r κs).Denot) (s t : AtExit (ended_of n ps r) κs)
+    → post κs args x s → post κs args y t → read κs x ≡ read κs y
+
 -- and so are what it then holds, for a function that lends something to be written
 abbrev pub OneAnswerAnd : {n : ℕ} (ps : List (ParamKind n)) (r : ResultKind n) {L : Type 0} → ((κs : Lfts n) → AtExit (ended_of n ps r) κs → L) → Out n ps r → Type 0
 OneAnswerAnd {n} ps r later post =

@@ -1,5 +1,6 @@
 pub mod Pick
 pub mod Scan
+pub mod Search
 pub mod Sum
 pub mod Within
 pub mod Places

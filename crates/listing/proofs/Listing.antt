@@ -1,7 +1,7 @@
 -- The loops over the subareas: times to peak and sums of weights listed, rows made of them, and all that runs off. Assumes nothing.
 use mathlib.Core.Path.{◌≡◌, refl, sym, ap, ◌∙◌}
 use mathlib.Core.Logic.{◌⊎◌, inl, inr}
-use mathlib.Core.List.{List}
+use mathlib.Core.List.{List, []}
 use Prim.Native.Nat.{ℕ, ◌+◌, ◌-◌, ◌*◌, ◌≤◌, ◌<◌}
 use native.Mathlib.Nat.{mul-le-mul_left}
 use native.Mathlib.Omega.{arith}
@@ -26,11 +26,11 @@ use Rattle.sums.specs.Needs.{NumbersOk}
 use Rattle.parts.specs.Needs.{part_by}
 use Rattle.subarea.specs.declared.Setup.{Setup}
 use Rattle.subarea.specs.Records.{records_in, record_at, area_of, curve_tenths, patches}
-use Rattle.subarea.specs.Needs.{AllPatches}
-use Rattle.subarea.proofs.Subareas.{patches_fit}
+use Rattle.subarea.proofs.Subareas.{RecordAt, listed, listed_at, patches_fit}
 use Rattle.checks.specs.Needs.{ListOk}
 use Rattle.inflow.specs.Needs.{numbers_with, numbers_of, most_volume}
 use Rattle.inflow.proofs.Inflows.{own_numbers, PartsIn, parts_turn}
+use Rattle.listing.specs.declared.Shapes.{Shapes}
 use Rattle.listing.specs.Needs.{peak_at, total_at, written_over, Listed, most_of}
 
 -- a time to peak and a sum of weights are less than 2^32, so that each is listed narrow
@@ -81,10 +81,6 @@ module _ (f : ℕ → ℕ) (first : List ℕ) where
             ∙ ap (λ (z : ℕ). get_or (written_over f i first) z 0) there
 
 module _ (g : Setup) (s : List ℕ) where
-  -- every subarea's patches are within their limits
-  pub all_patched : ListOk g s → AllPatches s
-  all_patched ok = record { each = λ i l. (ok.each i l).patched }
-
   -- the invariant of the loop that lists both, before subarea i
   pub record Listing (peaks₀ totals₀ peaks totals : List ℕ) (i : ℕ) : Type 0 where
     pub so_far : i ≤ records_in s
@@ -110,16 +106,23 @@ module _ (g : Setup) (s : List ℕ) where
           (rw all at (written_end (peak_at g s) peaks₀ so.peaked (omega (arith, so.so_far, few))), rw all at (written_end (total_at g s) totals₀ so.weighed (omega (arith, so.so_far, too))))
 
   -- lists so written have both of each subarea
-  pub lists_have : {peaks totals : List ℕ} (peaks₀ totals₀ : List ℕ) → peaks ≡ written_over (peak_at g s) (records_in s) peaks₀ → totals ≡ written_over (total_at g s) (records_in s) totals₀ → Listed g s peaks totals
+  pub lists_have : {shapes : Shapes} (peaks₀ totals₀ : List ℕ) → shapes.peaks ≡ written_over (peak_at g s) (records_in s) peaks₀ → shapes.totals ≡ written_over (total_at g s) (records_in s) totals₀ → Listed g s shapes
   lists_have peaks₀ totals₀ p t =
-      rw (p, t) (record { peaked = over_filled (peak_at g s) (records_in s) peaks₀; weighed = over_filled (total_at g s) (records_in s) totals₀ })
+      record { peaked = rw p (over_filled (peak_at g s) (records_in s) peaks₀); weighed = rw t (over_filled (total_at g s) (records_in s) totals₀) }
 
   -- a subarea's numbers, as the lists have them, are its own
-  module _ {peaks totals : List ℕ} (l : Listed g s peaks totals) {i : ℕ} (h : i < records_in s) {own : Numbers} (e : own ≡ numbers_with (record_at s i) (get_or peaks i 0) (get_or totals i 0)) where
+  module _ {shapes : Shapes} (l : Listed g s shapes) {records : List (List ℕ)} (f : records ≡ listed s) {i : ℕ} (t : i < length records) {own : Numbers} (e : own ≡ numbers_with (get_or records i []) (get_or shapes.peaks i 0) (get_or shapes.totals i 0)) where
+    abbrev a : RecordAt s records i
+    a = listed_at f t
+
+    abbrev h : i < records_in s
+    h = a.inside
+
     listed_own : own ≡ numbers_of g (record_at s i)
     listed_own =
         e
-        ∙ ap (λ (z : ℕ). numbers_with (record_at s i) z (get_or totals i 0)) (l.peaked.each i h)
+        ∙ ap (λ (r : List ℕ). numbers_with r (get_or shapes.peaks i 0) (get_or shapes.totals i 0)) a.own
+        ∙ ap (λ (z : ℕ). numbers_with (record_at s i) z (get_or shapes.totals i 0)) (l.peaked.each i h)
         ∙ ap (numbers_with (record_at s i) (peak_at g s i)) (l.weighed.each i h)
 
     -- so its parts can be worked out, and with them the rows have one subarea more

@@ -5,13 +5,12 @@
 
 pub mod over;
 
-ghost use Rattle.std.specs.Prelude.{◌≡◌, ◌+◌, ◌≤◌, ◌<◌, length, get_or};
+ghost use Rattle.std.specs.Prelude.{◌≡◌, ◌+◌, ◌≤◌, ◌<◌, true, length, get_or};
 ghost use Rattle.laws.specs.Limits.{most_rows, most_subareas};
 ghost use Rattle.laws.specs.Listed.{rows_from};
 ghost use Rattle.hydrograph.specs.Needs.{RainOk};
 ghost use Rattle.sums.specs.Needs.{block_rows};
-ghost use Rattle.subarea.specs.Records.{records_in, record_at};
-ghost use Rattle.subarea.specs.Needs.{RecordsOk, AllPatches};
+ghost use Rattle.subarea.specs.Records.{width, records_in, patches_pass};
 ghost use Rattle.checks.specs.Needs.{ListOk};
 ghost use Rattle.inflow.specs.Inflow.{inflow_at, inflow_rows};
 ghost use Rattle.inflow.specs.Needs.{numbers_with};
@@ -21,42 +20,32 @@ use laws::limits;
 use subarea::Setup;
 use sums::Numbers;
 
-// Puts each subarea's time to peak and the sum of its weights into lists, the first at place 0.
-pub fn list_peaks(
-    setup: Setup,
-    subareas: &[u64],
-    peaks: &mut [u32; limits::MOST_SUBAREAS],
-    totals: &mut [u32; limits::MOST_SUBAREAS],
-)
-    requires { ListOk setup subareas.now × ((length peaks.old ≡ most_subareas) × (length totals.old ≡ most_subareas)) }
-    ensures peaks_after { peaks.new ≡ written_over (peak_at setup subareas.now) (records_in subareas.now) peaks.old }
-    ensures totals_after { totals.new ≡ written_over (total_at setup subareas.now) (records_in subareas.now) totals.old }
+// Of each subarea's unit hydrograph, the time to peak and the sum of the weights, the first subarea's at place 0.
+#[derive(Drop)]
+pub struct Shapes {
+    pub peaks: [u32; limits::MOST_SUBAREAS],
+    pub totals: [u32; limits::MOST_SUBAREAS],
+}
+
+// Lists them over whatever was there.
+pub fn list_peaks(setup: Setup, subareas: &[u64], shapes: &mut Shapes)
+    requires { ListOk setup subareas.now × ((length shapes.old.peaks ≡ most_subareas) × (length shapes.old.totals ≡ most_subareas)) }
+    ensures peaks_after { shapes.new.peaks ≡ written_over (peak_at setup subareas.now) (records_in subareas.now) shapes.old.peaks }
+    ensures totals_after { shapes.new.totals ≡ written_over (total_at setup subareas.now) (records_in subareas.now) shapes.old.totals }
 {
-    let n = subareas.len() / subarea::WIDTH;
-    let mut i = 0;
-    while i < n {
-        let a = subarea::WIDTH * i;
-        let e = a + subarea::WIDTH;
-        let peak = subarea::peak(setup, &subareas[a..e]);
-        peaks[i] = peak as u32;
-        totals[i] = hydrograph::total_weight(peak, setup.step) as u32;
-        i += 1;
+    for (i, own) in subarea::records(subareas).iter().enumerate() {
+        let peak = subarea::peak(setup, own);
+        shapes.peaks[i] = peak as u32;
+        shapes.totals[i] = hydrograph::total_weight(peak, setup.step) as u32;
     }
 }
 
 // Subarea i's numbers, as they are listed.
-fn listed_numbers(
-    subareas: &[u64],
-    peaks: &[u32; limits::MOST_SUBAREAS],
-    totals: &[u32; limits::MOST_SUBAREAS],
-    i: usize,
-) -> Numbers
-    requires { RecordsOk subareas.now × (AllPatches subareas.now × (i < records_in subareas.now)) }
-    ensures { result ≡ numbers_with (record_at subareas.now i) (get_or peaks.now i 0) (get_or totals.now i 0) }
+fn listed_numbers(own: &[u64], shapes: &Shapes, i: usize) -> Numbers
+    requires { (length own.now ≡ width) × ((patches_pass own.now ≡ true) × (i < most_subareas)) }
+    ensures { result ≡ numbers_with own.now (get_or shapes.now.peaks i 0) (get_or shapes.now.totals i 0) }
 {
-    let a = subarea::WIDTH * i;
-    let e = a + subarea::WIDTH;
-    inflow::numbers_with(&subareas[a..e], laws::wide(peaks[i]), laws::wide(totals[i]))
+    inflow::numbers_with(own, u64::from(shapes.peaks[i]), u64::from(shapes.totals[i]))
 }
 
 // Writes the inflow of a block of rows, those after row `from`.
@@ -64,22 +53,18 @@ fn fill_block(
     setup: Setup,
     rain: &[u64],
     subareas: &[u64],
-    peaks: &[u32; limits::MOST_SUBAREAS],
-    totals: &[u32; limits::MOST_SUBAREAS],
+    shapes: &Shapes,
     from: usize,
     rows: &mut [u64],
 )
-    requires list_ok { ListOk setup subareas.now × (RainOk rain.now × Listed setup subareas.now peaks.now totals.now) }
+    requires list_ok { ListOk setup subareas.now × (RainOk rain.now × Listed setup subareas.now shapes.now) }
     requires in_bounds { (1 ≤ length rows.old) × ((length rows.old ≤ block_rows) × (from + length rows.old ≤ most_rows)) }
     ensures { rows.new ≡ rows_from (inflow_at setup rain.now subareas.now) (from + 1) (length rows.old) }
 {
     laws::clear(rows);
-    let n = subareas.len() / subarea::WIDTH;
-    let mut i = 0;
-    while i < n {
-        let own = listed_numbers(subareas, peaks, totals, i);
-        parts::add_block(own, setup.step, rain, from, rows);
-        i += 1;
+    for (i, own) in subarea::records(subareas).iter().enumerate() {
+        let numbers = listed_numbers(own, shapes, i);
+        parts::add_block(numbers, setup.step, rain, from, rows);
     }
 }
 
@@ -88,24 +73,20 @@ pub fn fill_rows(
     setup: Setup,
     rain: &[u64],
     subareas: &[u64],
-    peaks: &[u32; limits::MOST_SUBAREAS],
-    totals: &[u32; limits::MOST_SUBAREAS],
+    shapes: &Shapes,
     inflow: &mut [u64],
     outflow: &mut [u64],
     storage: &mut [u64],
 )
-    requires list_ok { ListOk setup subareas.now × (RainOk rain.now × Listed setup subareas.now peaks.now totals.now) }
+    requires list_ok { ListOk setup subareas.now × (RainOk rain.now × Listed setup subareas.now shapes.now) }
     requires rain_len_bound { (length rain.now ≤ most_rows + 1) × ((length inflow.old ≤ most_rows) × ((length outflow.old ≡ length inflow.old) × (length storage.old ≡ length inflow.old))) }
     ensures inflow_after { inflow.new ≡ inflow_rows setup rain.now subareas.now (length inflow.old) }
     ensures outflow_len_unchanged { (length outflow.new ≡ length outflow.old) × (length storage.new ≡ length storage.old) }
 {
     laws::clear(inflow);
-    let n = subareas.len() / subarea::WIDTH;
-    let mut i = 0;
-    while i < n {
-        let own = listed_numbers(subareas, peaks, totals, i);
-        parts::add_all(own, setup.step, rain, inflow, outflow, storage);
-        i += 1;
+    for (i, own) in subarea::records(subareas).iter().enumerate() {
+        let numbers = listed_numbers(own, shapes, i);
+        parts::add_all(numbers, setup.step, rain, inflow, outflow, storage);
     }
 }
 
@@ -114,15 +95,10 @@ fn most_inflow(setup: Setup, rain: &[u64], subareas: &[u64]) -> u64
     requires { ListOk setup subareas.now × RainOk rain.now }
     ensures { result ≡ most_of rain.now subareas.now }
 {
-    let n = subareas.len() / subarea::WIDTH;
     let mut all = 0;
-    let mut i = 0;
-    while i < n {
-        let a = subarea::WIDTH * i;
-        let e = a + subarea::WIDTH;
-        let ground = subarea::ground(&subareas[a..e]);
+    for own in subarea::records(subareas) {
+        let ground = subarea::ground(own);
         all += inflow::most_volume(ground.tenths, ground.area, rain);
-        i += 1;
     }
     all
 }

@@ -10,6 +10,7 @@ use Rattle.laws.specs.Pick.{pick}
 use Rattle.laws.proofs.Tests.{by_test}
 use Rattle.pond.proofs.Sums.{stage_most}
 use Rattle.rows.specs.Figures.{at, peak_row, row_stage}
+use Rattle.refusals.specs.Refusals.{none}
 use Rattle.checks.specs.Site.{Rows}
 use Rattle.marks.specs.declared.Mark.{Mark}
 use Rattle.marks.specs.declared.Mark.TheVariants.{Nothing, Outflow, Peak}
@@ -18,7 +19,7 @@ use Rattle.marks.specs.Needs.{MarkOk}
 use Rattle.marks.proofs.Doubles.{double_whole}
 use Rattle.marks.proofs.Ready.{mark_ok, flow_exact, asked_ok, point_ok}
 
-module _ (D first : ℕ) (p : List ℕ) (l : Rows) (k : ℕ) (done : (mark_refusal D first p l k).number ≡ 0) where
+module _ (D first : ℕ) (p : List ℕ) (l : Rows) (k : ℕ) (done : mark_refusal D first p l k ≡ none) where
   abbrev os : List ℕ
   os = l.outflow
 

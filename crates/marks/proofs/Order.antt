@@ -1,79 +1,94 @@
--- The refusal of a mark is the first line of `mark_order`, document 01's order, that refuses; its answer is told by its number, place, kind and values. Assumes nothing.
+-- The refusal of a mark is the first line of `mark_order`, docs/SCOPE.md's order, that refuses; its answer is told by its number, place, kind and values. Assumes nothing.
 use mathlib.Core.Path.{◌≡◌, refl, sym, ap, ◌∙◌}
-use mathlib.Core.Bool.{Bool, true, false}
-use mathlib.Core.List.{List, [], ◌∷◌, ◌++◌}
-use Prim.Native.Nat.{ℕ, ◌+◌, ◌/◌}
+use mathlib.Core.List.{List, [], ◌∷◌}
+use Prim.Native.Nat.{ℕ, ◌-◌}
 use native.Mathlib.Omega.{arith}
-use borrow.Author.Tests.{eqb-true, eqb-false}
-use lib.Dec.{ltb}
-use lib.ListN.{length, get_or}
+use lib.ListN.{get_or}
 use lib.Ieee.{Float}
-use Rattle.laws.specs.Pick.{pick}
-use Rattle.laws.specs.Within.{within}
-use Rattle.laws.proofs.Tests.{by_test}
-use Rattle.rows.specs.Figures.{first_forged}
-use Rattle.refusals.specs.declared.Refusal.{Refusal}
+use Rattle.std.specs.Prelude.{Ok, Err}
+use Rattle.refusals.specs.declared.Rule.{Rule}
+use Rattle.refusals.specs.declared.Rule.TheVariants.{Lengths, Step, Rain, LastRow, Subareas, Patches, Segments, Area, Concentration, Coarse, Weights, PondTable, PondHeld, Over, Place, InflowRow, Forged, Row, Rise, SheetRule}
+use Rattle.refusals.specs.Refusals.{Line, number_of, told, none, answer, after, First}
+use Rattle.refusals.proofs.Orders.{refused, told_none, first_there}
 use Rattle.checks.specs.Site.{Rows}
-use Rattle.refusals.specs.Refusals.{refuse, none, unless, first_of, passes, First}
-use Rattle.marks.specs.ChartMarks.{mark_lines, double_of, marked_of, mark_order, mark_refusal, mark_answer, kind_of, flow_of, stage_of, mark_kind, mark_values, mark_refusal_in, mark_kind_in, mark_values_in}
-use Rattle.checks.specs.Order.{pond_lines}
-use Rattle.refusals.proofs.Orders.{first_there, last_is}
 use Rattle.marks.specs.declared.Mark.{Mark}
 use Rattle.marks.specs.declared.Mark.TheVariants.{Nothing, Outflow, Peak}
 use Rattle.marks.specs.declared.Marked.{Marked}
-use Rattle.marks.specs.declared.MarkAnswer.{MarkAnswer}
-use Rattle.marks.specs.declared.MarkAnswer.TheVariants.{Refused, Done}
+use Rattle.marks.specs.ChartMarks.{double_of, mark_order, mark_refusal, MarkAnswer, mark_answer, kind_of, flow_of, stage_of, doubles_of, no_doubles, mark_kind, mark_values, mark_refusal_in, mark_kind_in, mark_values_in}
 use Rattle.marks.specs.Needs.{Numbered}
 
--- 17 that refuses nothing has neither number nor place
-forged_none : (i many : ℕ) → (first_of 17 i many).number ≡ 0 → first_of 17 i many ≡ none
-forged_none i many e = go (ltb i many) e
-  where
-    go : (b : Bool) → (pick b (refuse 17 (i + 1)) none).number ≡ 0 → pick b (refuse 17 (i + 1)) none ≡ none
-    go true q = absurd (omega arith)
-    go false q = refl
+-- what is read of an answer is its refusal, or what is done where there is none
+refusal_read : (v : Line) (w : Marked) → mark_refusal_in (answer v w) ≡ v
+refusal_read (Ok u) w = refl
+refusal_read (Err e) w = refl
 
--- what is read of a choice is the choice of what is read
-pick_read : {A B : Type 0} (f : A → B) (b : Bool) (x y : A) → f (pick b x y) ≡ pick b (f x) (f y)
-pick_read f true x y = refl
-pick_read f false x y = refl
+kind_read : (v : Line) (w : Marked) → mark_kind_in (answer v w) ≡ after v (kind_of w.mark) 0
+kind_read (Ok u) w = refl
+kind_read (Err e) w = refl
+
+values_read : (v : Line) (w : Marked) → mark_values_in (answer v w) ≡ after v (doubles_of w) no_doubles
+values_read (Ok u) w = refl
+values_read (Err e) w = refl
+
+-- a refusal has a number above 0
+numbered : (v : Line) (w : Marked) → Numbered (answer v w)
+numbered (Ok u) w = tt
+numbered (Err e) w = λ q. refused (told_none (Err e) q)
 
 module _ (D first : ℕ) (p : List ℕ) (l : Rows) (k : ℕ) where
-  -- refused: the refusal stands in document 01's list, and every line before it passes
-  pub mark_order_lem : ((mark_refusal D first p l k).number ≡ 0 → ⊥) → First (mark_order D first p l k) (mark_refusal D first p l k)
+  -- refused: the refusal stands in the list of docs/SCOPE.md, and every line before it passes
+  pub mark_order_lem : (mark_refusal D first p l k ≡ none → ⊥) → First (mark_order D first p l k) (mark_refusal D first p l k)
   unfolding mark_refusal
   mark_order_lem n = first_there (mark_order D first p l k) n
 
-  -- accepted: neither number nor place
-  done_none : (mark_refusal D first p l k).number ≡ 0 → none ≡ mark_refusal D first p l k
-  unfolding mark_refusal
-  done_none e =
-      let i = first_forged (D / 2) p l.outflow l.storage in
-      let last = last_is (mark_lines D first l ++ (pond_lines (D / 2) p ++ (unless 18 (within 1 k (length l.outflow)) ∷ []))) (first_of 17 i (length l.outflow)) e in
-      sym (last ∙ forged_none i (length l.outflow) (sym (ap (λ (z : Refusal). z.number) last) ∙ e))
-
-  -- an answer's number and place are those of the refusal, or 0 and 0 when done
+  -- an answer's refusal is that refusal, or none when done
   pub mark_refusal_lem : mark_refusal_in (mark_answer D first p l k) ≡ mark_refusal D first p l k
   unfolding mark_answer
-  mark_refusal_lem =
-      let v = mark_refusal D first p l k in
-      by_test (λ (a : MarkAnswer). mark_refusal_in a ≡ v) (passes v) (Done (marked_of D first p l.outflow l.storage k)) (Refused v) (λ t. done_none (eqb-true v.number 0 t)) (λ t. refl)
+  mark_refusal_lem = refusal_read (mark_refusal D first p l k) _
 
   -- its kind and its values are the mark's, every one 0 when refused
   pub mark_kind_lem : mark_kind_in (mark_answer D first p l k) ≡ mark_kind D first p l k
   unfolding mark_answer mark_kind
-  mark_kind_lem = pick_read mark_kind_in (passes (mark_refusal D first p l k)) _ _
+  mark_kind_lem = kind_read (mark_refusal D first p l k) _
 
   pub mark_values_lem : mark_values_in (mark_answer D first p l k) ≡ mark_values D first p l k
   unfolding mark_answer mark_values
-  mark_values_lem = pick_read mark_values_in (passes (mark_refusal D first p l k)) _ _
+  mark_values_lem = values_read (mark_refusal D first p l k) _
 
   -- and where it is refused, there is a number
   pub mark_numbered : Numbered (mark_answer D first p l k)
   unfolding mark_answer
-  mark_numbered =
-      let v = mark_refusal D first p l k in
-      by_test Numbered (passes v) (Done (marked_of D first p l.outflow l.storage k)) (Refused v) (λ t. tt) (λ t. eqb-false v.number 0 t)
+  mark_numbered = numbered (mark_refusal D first p l k) _
+
+-- the rule that has a number
+abbrev rules : List Rule
+rules = Lengths ∷ Step ∷ Rain ∷ LastRow ∷ Subareas ∷ Patches ∷ Segments ∷ Area ∷ Concentration ∷ Coarse ∷ Weights ∷ PondTable ∷ PondHeld ∷ Over ∷ Place ∷ InflowRow ∷ Forged ∷ Row ∷ Rise ∷ SheetRule ∷ []
+
+rule_back : (r : Rule) → get_or rules (number_of r - 1) Lengths ≡ r
+rule_back Lengths = refl
+rule_back Step = refl
+rule_back Rain = refl
+rule_back LastRow = refl
+rule_back Subareas = refl
+rule_back Patches = refl
+rule_back Segments = refl
+rule_back Area = refl
+rule_back Concentration = refl
+rule_back Coarse = refl
+rule_back Weights = refl
+rule_back PondTable = refl
+rule_back PondHeld = refl
+rule_back Over = refl
+rule_back Place = refl
+rule_back InflowRow = refl
+rule_back Forged = refl
+rule_back Row = refl
+rule_back Rise = refl
+rule_back SheetRule = refl
+
+-- so its number tells a rule
+rule_told : (r q : Rule) → number_of r ≡ number_of q → r ≡ q
+rule_told r q e = sym (rule_back r) ∙ ap (λ (n : ℕ). get_or rules (n - 1) Lengths) e ∙ rule_back q
 
 -- kind, outflow and stage tell the mark
 mark_told : (a b : Mark) → kind_of a ≡ kind_of b → flow_of a ≡ flow_of b → stage_of a ≡ stage_of b → a ≡ b
@@ -91,7 +106,7 @@ mark_told (Peak x y) (Peak z w) k o s = λ i. Peak (o i) (s i)
 abbrev value : ℕ → List Float → Float
 value i l = get_or l i (double_of 0)
 
-marked_told : (v w : Marked) → mark_kind_in (Done v) ≡ mark_kind_in (Done w) → mark_values_in (Done v) ≡ mark_values_in (Done w) → v ≡ w
+marked_told : (v w : Marked) → mark_kind_in (Ok v) ≡ mark_kind_in (Ok w) → mark_values_in (Ok v) ≡ mark_values_in (Ok w) → v ≡ w
 marked_told v w k e =
     λ i. record {
       mark = mark_told v.mark w.mark k (ap (value 0) e) (ap (value 1) e) i;
@@ -99,8 +114,8 @@ marked_told v w k e =
     }
 
 -- number, place, kind and values tell the answer: two answers that agree in them are the same
-pub answer_told : (a b : MarkAnswer) → Numbered a → Numbered b → mark_refusal_in a ≡ mark_refusal_in b → mark_kind_in a ≡ mark_kind_in b → mark_values_in a ≡ mark_values_in b → a ≡ b
-answer_told (Refused v) (Refused w) s t e k u = ap Refused e
-answer_told (Refused v) (Done w) s t e k u = absurd (s (ap (λ (z : Refusal). z.number) e))
-answer_told (Done v) (Refused w) s t e k u = absurd (t (sym (ap (λ (z : Refusal). z.number) e)))
-answer_told (Done v) (Done w) s t e k u = ap Done (marked_told v w k u)
+pub answer_told : (a b : MarkAnswer) → Numbered a → Numbered b → told (mark_refusal_in a) ≡ told (mark_refusal_in b) → mark_kind_in a ≡ mark_kind_in b → mark_values_in a ≡ mark_values_in b → a ≡ b
+answer_told (Err v) (Err w) s t e k u = λ i. Err (record { rule = rule_told v.rule w.rule (ap (λ z. z.0) e) i; place = ap (λ z. z.1) e i })
+answer_told (Err v) (Ok w) s t e k u = absurd (s (ap (λ z. z.0) e))
+answer_told (Ok v) (Err w) s t e k u = absurd (t (sym (ap (λ z. z.0) e)))
+answer_told (Ok v) (Ok w) s t e k u = ap Ok (marked_told v w k u)

@@ -1,18 +1,23 @@
 -- The row asked is the peak row exactly where no row before it is as high and none after it is higher. Assumes nothing.
 use mathlib.Core.Path.{◌≡◌, refl, sym, ap, ◌∙◌, subst}
-use mathlib.Core.Bool.{Bool, true, false}
+use mathlib.Core.Bool.{Bool, true, false, not, false≢true}
 use mathlib.Core.Logic.{⊎_elim}
 use mathlib.Core.List.{List}
 use Prim.Native.Nat.{ℕ, ◌+◌, ◌-◌, ◌≤◌, ◌<◌}
 use native.Mathlib.Nat.{eq-or-lt_of_le}
 use native.Mathlib.Omega.{arith}
-use borrow.Author.Tests.{ltb-true, ltb-false, lt-ltb, le-ltb, eqb-true, eqb-false, eq-eqb, ne_eqb}
-use lib.Dec.{ltb, eqb}
-use lib.ListN.{length, drop, length-drop}
-use lib.Seq.{get_or-drop}
+use borrow.Author.Tests.{ltb-true, ltb-false, lt-ltb, le-ltb, leb-false, lt-leb, eq-eqb, ne_eqb}
+use lib.Dec.{ltb, leb, eqb}
+use lib.ListN.{length, take, drop, length-drop}
+use Rattle.std.specs.Prelude.{Option, None, Some, cond}
+use Rattle.std.specs.List.{position_or_len}
+use Rattle.std.specs.Option.{is_none}
+use Rattle.std.proofs.lemmas.Option.{none-some}
+use Rattle.std.proofs.lemmas.List.Sums.{position_or_len_is, prefix_len_passes}
+use lib.Seq.{get_or-take, get_or-drop, length-take-le}
 use Rattle.laws.specs.Scan.{scan}
 use Rattle.laws.proofs.Num.{below_or_not}
-use Rattle.laws.proofs.Scans.{scan_is, scan_bad, scan_before, scan_passes, scan_whole}
+use Rattle.laws.proofs.Scans.{scan_is, scan_bad, scan_before}
 use Rattle.rows.specs.Figures.{max_to, at, peak_row}
 use Rattle.rows.proofs.Keeping.{max_over, max_most}
 use Rattle.marks.specs.Needs.{first_at_least}
@@ -22,11 +27,36 @@ pub record Top (os : List ℕ) (i : ℕ) : Type 0 where
   pub before : (k : ℕ) → k < i → at os k < at os i
   pub after : (k : ℕ) → i < k → k < length os → at os k ≤ at os i
 
+-- no row is as high: the search finds none
+none_high : (os : List ℕ) (o : ℕ) → ((k : ℕ) → k < length os → at os k < o) → first_at_least os o ≡ None
+none_high os o low =
+    let place = position_or_len_is (λ q. leb o q) os (length os) 0 (omega arith) (λ k u. lt-leb o (at os k) (low k u)) (λ u. absurd (omega (arith, u))) in
+    rw (place, le-ltb (length os) (length os) (omega arith)) refl
+
+-- and where it finds none, no row is
+high_none : (os : List ℕ) (o : ℕ) → first_at_least os o ≡ None → (k : ℕ) → k < length os → at os k < o
+high_none os o e k u = go (ltb (position_or_len (λ q. leb o q) os) (length os)) refl e
+  where
+    lower : (b : Bool) → leb o (at os k) ≡ b → not b ≡ true → at os k < o
+    lower true t q = absurd (false≢true q)
+    lower false t q = leb-false o (at os k) t
+
+    go : (b : Bool) → ltb (position_or_len (λ q. leb o q) os) (length os) ≡ b → cond b (Some (position_or_len (λ q. leb o q) os)) None ≡ None → at os k < o
+    go true t q = absurd (none-some _ (sym q))
+    go false t q =
+        lower (leb o (at os k)) refl (prefix_len_passes (λ q. not (leb o q)) os k 0 (omega (arith, u, ltb-false (position_or_len (λ q. leb o q) os) (length os) t)))
+
 module _ (os : List ℕ) (i : ℕ) (l : i < length os) where
   abbrev n : ℕ
   n = length os
 
-  -- the rows after it
+  -- the rows before it, and those after it
+  abbrev earlier : List ℕ
+  earlier = take i os
+
+  before_long : length earlier ≡ i
+  before_long = length-take-le i os (omega (arith, l))
+
   abbrev later : List ℕ
   later = drop (i + 1) os
 
@@ -61,32 +91,30 @@ module _ (os : List ℕ) (i : ℕ) (l : i < length os) where
         after = λ k v u. omega (arith, high, max_over (at os) k n u);
       }
 
-  -- the first row as high as the peak row is itself
-  pub peak_first : i + 1 ≡ peak_row os n → first_at_least os (at os i) ≡ i
-  peak_first e = scan_is _ n i (omega (arith, l)) (λ k u. lt-ltb (at os k) (at os i) ((peak_top e).before k u)) (λ u. le-ltb (at os i) (at os i) (omega arith))
+  -- no row before the peak row is as high
+  pub peak_first : i + 1 ≡ peak_row os n → first_at_least earlier (at os i) ≡ None
+  peak_first e = none_high earlier (at os i) (λ k u. omega (arith, get_or-take i os k 0 (omega (arith, u, before_long)), (peak_top e).before k (omega (arith, u, before_long))))
 
-  -- no row after it is higher
-  peak_last : i + 1 ≡ peak_row os n → first_at_least later (at os i + 1) ≡ n - (i + 1)
+  -- and none after it is higher
+  peak_last : i + 1 ≡ peak_row os n → first_at_least later (at os i + 1) ≡ None
   peak_last e =
-      scan_whole _ (length later) (λ j u. lt-ltb (at later j) (at os i + 1) (omega (arith, get_or-drop (i + 1) os j 0, (peak_top e).after (i + 1 + j) (omega arith) (omega (arith, u, long)))))
-      ∙ long
+      none_high later (at os i + 1) (λ j u. omega (arith, get_or-drop (i + 1) os j 0, (peak_top e).after (i + 1 + j) (omega arith) (omega (arith, u, long))))
 
   -- a row that both hold of is the peak row
-  both_peak : i ≤ first_at_least os (at os i) → first_at_least later (at os i + 1) ≡ n - (i + 1) → i + 1 ≡ peak_row os n
+  both_peak : first_at_least earlier (at os i) ≡ None → first_at_least later (at os i + 1) ≡ None → i + 1 ≡ peak_row os n
   both_peak e f =
       top_peak (record {
-        before = λ k u. ltb-true (at os k) (at os i) (scan_before (λ j. ltb (at os j) (at os i)) n 0 k (omega arith) (omega (arith, e, u)));
+        before = λ k u. omega (arith, high_none earlier (at os i) e k (omega (arith, u, before_long)), get_or-take i os k 0 u);
         after = λ k v u.
             let j = k - (i + 1) in
             let there : i + 1 + (k - (i + 1)) ≡ k = omega (arith, v) in
-            let low = scan_passes (λ z. ltb (at later z) (at os i + 1)) (length later) (omega (arith, f, long)) j (omega (arith, u, v, long)) in
-            omega (arith, ltb-true (at later j) (at os i + 1) low, get_or-drop (i + 1) os j 0, ap (at os) there);
+            omega (arith, high_none later (at os i + 1) f j (omega (arith, u, v, long)), get_or-drop (i + 1) os j 0, ap (at os) there);
       })
 
   -- where no row before it is as high, the rows after it decide
-  pub peak_told : i ≤ first_at_least os (at os i) → eqb (first_at_least later (at os i + 1)) (n - (i + 1)) ≡ eqb (i + 1) (peak_row os n)
-  peak_told e = go (eqb (first_at_least later (at os i + 1)) (n - (i + 1))) refl
+  pub peak_told : first_at_least earlier (at os i) ≡ None → is_none (first_at_least later (at os i + 1)) ≡ eqb (i + 1) (peak_row os n)
+  peak_told e = go (first_at_least later (at os i + 1)) refl
     where
-      go : (b : Bool) → eqb (first_at_least later (at os i + 1)) (n - (i + 1)) ≡ b → b ≡ eqb (i + 1) (peak_row os n)
-      go true t = sym (eq-eqb (i + 1) (peak_row os n) (both_peak e (eqb-true _ _ t)))
-      go false t = sym (ne_eqb (i + 1) (peak_row os n) (λ q. eqb-false _ _ t (peak_last q)))
+      go : (f : Option ℕ) → first_at_least later (at os i + 1) ≡ f → is_none f ≡ eqb (i + 1) (peak_row os n)
+      go None t = sym (eq-eqb (i + 1) (peak_row os n) (both_peak e t))
+      go (Some k) t = sym (ne_eqb (i + 1) (peak_row os n) (λ q. none-some k (sym (peak_last q) ∙ t)))

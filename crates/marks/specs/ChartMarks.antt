@@ -1,5 +1,5 @@
--- Document 01, 'Chart marks' and refusals 17 and 18: a row's mark and point, and what a mark answers.
-use Rattle.std.specs.Prelude.{◌≡◌, false, List, [], ◌∷◌, ◌++◌, ℕ, ◌+◌, ◌-◌, ◌*◌, ◌/◌, ◌<◌, length, T, eqb, pos, Float}
+-- docs/SCOPE.md, 'Chart marks' and refusals 17 and 18: a row's mark and point, and what a mark answers.
+use Rattle.std.specs.Prelude.{◌≡◌, false, List, [], ◌∷◌, ◌++◌, ℕ, ◌+◌, ◌-◌, ◌*◌, ◌/◌, ◌<◌, length, T, eqb, pos, Float, Result, Ok, Err}
 use Rattle.std.specs.Float.{binary64}
 use Rattle.std.specs.Float.Ieee.{of_int, in_unsigned, to_unsigned}
 use Rattle.std.specs.Float.Ieee.Exact.{HasValue}
@@ -7,16 +7,16 @@ use Rattle.laws.specs.Pick.{pick}
 use Rattle.laws.specs.Within.{within}
 use Rattle.pond.specs.PondRows.{stage_at}
 use Rattle.rows.specs.Figures.{at, peak_row}
+use Rattle.refusals.specs.declared.Rule.{Rule}
+use Rattle.refusals.specs.declared.Rule.TheVariants.{LastRow, Row}
 use Rattle.refusals.specs.declared.Refusal.{Refusal}
 use Rattle.checks.specs.Site.{Rows, asked}
-use Rattle.refusals.specs.Refusals.{none, unless, first_refusal, after}
+use Rattle.refusals.specs.Refusals.{Line, none, unless, first_refusal, answer, after}
 use Rattle.checks.specs.Order.{frame_lines, last_good, pond_lines, forged_line}
 use Rattle.marks.specs.declared.Point.{Point}
 use Rattle.marks.specs.declared.Mark.{Mark}
 use Rattle.marks.specs.declared.Mark.TheVariants.{Nothing, Outflow, Peak}
 use Rattle.marks.specs.declared.Marked.{Marked}
-use Rattle.marks.specs.declared.MarkAnswer.{MarkAnswer}
-use Rattle.marks.specs.declared.MarkAnswer.TheVariants.{Refused, Done}
 
 -- the double of a whole number, by IEEE 754
 abbrev pub double_of : ℕ → Float
@@ -42,27 +42,30 @@ marked_of D first p os ss k =
     }
 
 -- 1, 2 and 4
-abbrev pub mark_lines : ℕ → ℕ → Rows → List Refusal
-mark_lines D first l = frame_lines D l ++ (unless 4 (last_good first (asked l)) ∷ [])
+abbrev pub mark_lines : ℕ → ℕ → Rows → List Line
+mark_lines D first l = frame_lines D l ++ (unless LastRow (last_good first (asked l)) ∷ [])
 
 -- 18: the row asked is 1 to m; 17: all rows, whatever row is asked
-abbrev pub asked_lines : ℕ → List ℕ → Rows → ℕ → List Refusal
+abbrev pub asked_lines : ℕ → List ℕ → Rows → ℕ → List Line
 asked_lines h p l k =
-    unless 18 (within 1 k (length l.outflow))
+    unless Row (within 1 k (length l.outflow))
     ∷ forged_line h p l
     ∷ []
 
--- document 01's order of a mark, line by line: 1, 2, 4, 12, 13, 18, 17
-abbrev pub mark_order : ℕ → ℕ → List ℕ → Rows → ℕ → List Refusal
+-- docs/SCOPE.md's order of a mark, line by line: 1, 2, 4, 12, 13, 18, 17
+abbrev pub mark_order : ℕ → ℕ → List ℕ → Rows → ℕ → List Line
 mark_order D first p l k = mark_lines D first l ++ pond_lines (D / 2) p ++ asked_lines (D / 2) p l k
 
 -- the first refusal of a mark
-unfoldable pub mark_refusal : ℕ → ℕ → List ℕ → Rows → ℕ → Refusal
+unfoldable pub mark_refusal : ℕ → ℕ → List ℕ → Rows → ℕ → Line
 mark_refusal D first p l k = first_refusal (mark_order D first p l k)
 
 -- what a mark answers; of the inflow list only the length is read
+abbrev pub MarkAnswer : Type 0
+MarkAnswer = Result Marked (Refusal Rule)
+
 unfoldable pub mark_answer : ℕ → ℕ → List ℕ → Rows → ℕ → MarkAnswer
-mark_answer D first p l k = after (mark_refusal D first p l k) (Done (marked_of D first p l.outflow l.storage k)) (Refused (mark_refusal D first p l k))
+mark_answer D first p l k = answer (mark_refusal D first p l k) (marked_of D first p l.outflow l.storage k)
 
 -- the kind of a mark: 0 none, 1 an outflow, 2 a peak
 abbrev pub kind_of : Mark → ℕ
@@ -95,18 +98,18 @@ mark_kind D first p l k = after (mark_refusal D first p l k) (kind_of (marked_of
 unfoldable pub mark_values : ℕ → ℕ → List ℕ → Rows → ℕ → List Float
 mark_values D first p l k = after (mark_refusal D first p l k) (doubles_of (marked_of D first p l.outflow l.storage k)) no_doubles
 
--- the number and the place, the kind and the values that an answer has: 0 and 0 when done, kind and values 0 when refused
-abbrev pub mark_refusal_in : MarkAnswer → Refusal
-mark_refusal_in (Refused v) = v
-mark_refusal_in (Done w) = none
+-- the refusal, the kind and the values that an answer has: none when done, kind and values 0 when refused
+abbrev pub mark_refusal_in : MarkAnswer → Line
+mark_refusal_in (Ok w) = none
+mark_refusal_in (Err v) = Err v
 
 abbrev pub mark_kind_in : MarkAnswer → ℕ
-mark_kind_in (Refused v) = 0
-mark_kind_in (Done w) = kind_of w.mark
+mark_kind_in (Ok w) = kind_of w.mark
+mark_kind_in (Err v) = 0
 
 abbrev pub mark_values_in : MarkAnswer → List Float
-mark_values_in (Refused v) = no_doubles
-mark_values_in (Done w) = doubles_of w
+mark_values_in (Ok w) = doubles_of w
+mark_values_in (Err v) = no_doubles
 
 -- a double that is the whole number n itself: n is below 2^53, the double's value is n over 1 with no sign, it passes the test of a cast to 64 bits, and the cast gives n again
 pub record IsWhole (x : Float) (n : ℕ) : Type 0 where

@@ -1,22 +1,20 @@
--- What contracts ask of a mark, and proofs use; no rule of document 01 is here.
-use Rattle.std.specs.Prelude.{◌≡◌, List, ℕ, ◌+◌, ◌-◌, ◌*◌, ◌/◌, ◌≤◌, ltb, length}
+-- What contracts ask of a mark, and proofs use; no rule of docs/SCOPE.md is here.
+use Rattle.std.specs.Prelude.{◌≡◌, Ok, Err, Option, List, ℕ, ◌+◌, ◌-◌, ◌*◌, ◌/◌, ◌≤◌, leb, length, position}
 use Rattle.laws.specs.Limits.{most_step, last_number}
-use Rattle.laws.specs.Scan.{scan}
 use Rattle.pond.specs.Needs.{PondOk}
-use Rattle.rows.specs.Figures.{at}
 use Rattle.rows.specs.Needs.{RowsOk}
 use Rattle.checks.specs.Site.{Rows, asked}
 use Rattle.checks.specs.Needs.{StepOk, LengthsOk}
-use Rattle.marks.specs.declared.MarkAnswer.{MarkAnswer}
-use Rattle.marks.specs.declared.MarkAnswer.TheVariants.{Refused, Done}
+use Rattle.refusals.specs.Refusals.{number_of}
+use Rattle.marks.specs.ChartMarks.{MarkAnswer}
 
 -- every whole number up to this one is a double itself
 abbrev pub most_exact : ℕ
 most_exact = last_number
 
--- the first row, from 0, whose outflow is o or more, or their number
-abbrev pub first_at_least : List ℕ → ℕ → ℕ
-first_at_least os o = scan (λ i. ltb (at os i) o) (length os) 0
+-- the first row, from 0, whose outflow is o or more
+abbrev pub first_at_least : List ℕ → ℕ → Option ℕ
+first_at_least os o = position (λ q. leb o q) os
 
 -- what 1, 2 and 4 leave
 pub record MarkReady (D first : ℕ) (l : Rows) : Type 0 where
@@ -42,5 +40,5 @@ pub record MarkOk (D first : ℕ) (p os ss : List ℕ) (k : ℕ) : Type 0 where
 
 -- an answer whose refusal, if it is one, has a number
 abbrev pub Numbered : MarkAnswer → Type 0
-Numbered (Refused v) = v.number ≡ 0 → ⊥
-Numbered (Done w) = Unit {0}
+Numbered (Ok w) = Unit {0}
+Numbered (Err v) = number_of v.rule ≡ 0 → ⊥

@@ -21,8 +21,8 @@ fn add_volumes(own: Numbers, sums: &[u64], rows: &mut [u64])
 {
     let mut sum = sums[0];
     let mut before = hydrograph::volume(own.area, sum / own.total);
-    let mut i = 0;
-    while i < rows.len() {
+    // By place: after `iter_mut` with a second list nothing is known of what was written.
+    for i in 0..rows.len() {
         let next = sums[i + 1];
         if next != sum {
             let through = hydrograph::volume(own.area, next / own.total);
@@ -30,7 +30,6 @@ fn add_volumes(own: Numbers, sums: &[u64], rows: &mut [u64])
             before = through;
             sum = next;
         }
-        i += 1;
     }
 }
 
@@ -40,7 +39,7 @@ fn still(own: Numbers, step: u64, rain: &[u64], from: usize, n: usize) -> bool
     ensures { result ≡ eqb (runoff_at own.tenths rain.now (from + n)) (runoff_at own.tenths rain.now (from + 1 - weights own.peak step)) }
 {
     let count = (5 * own.peak / step) as usize;
-    let first = depths::less(from + 1, count);
+    let first = (from + 1).saturating_sub(count);
     depths::depth_at(own.tenths, rain, from + n) == depths::depth_at(own.tenths, rain, first)
 }
 
@@ -59,7 +58,8 @@ pub fn add_block(own: Numbers, step: u64, rain: &[u64], from: usize, rows: &mut 
     add_volumes(own, &list[..e], rows);
 }
 
-// Adds a subarea's parts to rows, those after row `from`, block by block.
+// Adds a subarea's parts to rows, those after row `from`, block by block. Not by `chunks_mut`, which leaves nothing known of the
+// rows, nor by `step_by`, whose end is told twice and which needs the same least.
 pub fn add_parts(own: Numbers, step: u64, rain: &[u64], from: usize, rows: &mut [u64])
     requires { NumbersOk step own × (RainOk rain.now × (RoomOk rows.old × (from + length rows.old ≤ most_rows))) }
     ensures { rows.new ≡ plus (part_by step rain.now own) (from + 1) rows.old }
@@ -67,7 +67,7 @@ pub fn add_parts(own: Numbers, step: u64, rain: &[u64], from: usize, rows: &mut 
     let m = rows.len();
     let mut at = 0;
     while at < m {
-        let e = laws::least(at + sums::BLOCK, m);
+        let e = (at + sums::BLOCK).min(m);
         add_block(own, step, rain, from + at, &mut rows[at..e]);
         at = e;
     }
@@ -114,7 +114,7 @@ pub fn add_from(
 {
     let count = (5 * own.peak / step) as usize;
     let lead = count + hydrograph::HAND;
-    let end = laws::least(rows.len(), depths::less(rain.len() + count, from));
+    let end = rows.len().min((rain.len() + count).saturating_sub(from));
     if end <= lead {
         add_parts(own, step, rain, from, &mut rows[..end]);
         return;
@@ -123,19 +123,19 @@ pub fn add_from(
     add_far(own, step, rain, from, lead, &mut rows[lead..end], q, sums);
 }
 
-// How many of the first rows, of at most m, have no runoff before or in them.
+// How many of the first rows, of at most m, have no runoff before or in them. A `for`, since the promise of a `position` says what
+// was asked of each place, and its zeros did not prove from that.
+#[tactic(auto, unfolding(hydrograph::specs::InflowRows::runoff_at))]
 fn dry_rows(tenths: u64, rain: &[u64], m: usize) -> usize
     requires { CurveOk tenths × (RainOk rain.now × (m ≤ most_rows)) }
     ensures { (result ≤ m) × (runoff_at tenths rain.now result ≡ 0) }
 {
-    let mut t = 0;
-    while t < m {
+    for t in 0..m {
         if depths::depth_at(tenths, rain, t + 1) != 0 {
             return t;
         }
-        t += 1;
     }
-    t
+    m
 }
 
 // Adds a subarea's parts to all rows, working in two lists as long as the rows, of which nothing is needed any more. Rows

@@ -11,7 +11,8 @@ use native.Mathlib.Omega.{arith}
 use borrow.Author.Tests.{leb-true, ltb-true, eqb-true, le-leb, lt-ltb, eq-eqb, ne_eqb}
 use Rattle.laws.specs.Within.{within}
 use Rattle.laws.proofs.Tests.{both_left, both_right, both_true, Kept, kept, keeps}
-use Rattle.laws.proofs.Scans.{scan_all, scan_whole}
+use Rattle.std.specs.Prelude.{None}
+use Rattle.laws.proofs.Places.{search_passes, search_whole}
 use Rattle.pond.specs.PondRows.{rows_in, stage, storage, discharge, count_good, row_within, order_good, row_good, first_bad, held_good, first_short}
 use Rattle.pond.specs.Needs.{HalfOk, TableOk, PondOk}
 
@@ -26,7 +27,7 @@ threefold a b c e =
     let f = both_right a (b && c) e in
     record { one = both_left a (b && c) e; two = both_left b c f; three = both_right b c f }
 
-module _ (p : List ℕ) (some : count_good p ≡ true) (none : first_bad p ≡ rows_in p) where
+module _ (p : List ℕ) (some : count_good p ≡ true) (none : first_bad p ≡ None) where
   few : Kept 2 (rows_in p) 64
   unfolding count_good
   few = kept 2 (rows_in p) 64 (both_right (eqb (length p % 3) 0) (within 2 (rows_in p) 64) some)
@@ -36,7 +37,7 @@ module _ (p : List ℕ) (some : count_good p ≡ true) (none : first_bad p ≡ r
   whole = omega (arith, eqb-true (length p % 3) 0 (both_left (eqb (length p % 3) 0) (within 2 (rows_in p) 64) some))
 
   good : (i : ℕ) → i < rows_in p → row_good p i ≡ true
-  good i l = scan_all (row_good p) (rows_in p) 0 (omega arith) i (omega arith) (omega arith)
+  good i l = search_passes (row_good p) (rows_in p) none i l
 
   limits : (i : ℕ) → i < rows_in p → Three (leb (stage p i) 1000000) (leb (storage p i) 1000000000000) (leb (discharge p i) 10000000)
   unfolding row_within
@@ -95,18 +96,18 @@ module _ {p : List ℕ} (ok : TableOk p) where
   order_pass (suc i) l = subst (λ (k : ℕ). order_good p k ≡ true) (add-one i) (after_pass i (omega arith))
 
   -- and none of its rows is bad
-  pub rows_pass : first_bad p ≡ rows_in p
-  rows_pass = scan_whole (row_good p) (rows_in p) (λ i l. both_true (limits_pass i l) (order_pass i l))
+  pub rows_pass : first_bad p ≡ None
+  rows_pass = search_whole (row_good p) (rows_in p) (λ i l. both_true (limits_pass i l) (order_pass i l))
 
 -- a table that passes the test of refusal 13 at a half step is a pond within its limits
-pub pond_ok : {h : ℕ} {p : List ℕ} → HalfOk h → TableOk p → first_short h p ≡ rows_in p → PondOk h p
+pub pond_ok : {h : ℕ} {p : List ℕ} → HalfOk h → TableOk p → first_short h p ≡ None → PondOk h p
 pond_ok {h} {p} half table none =
     record {
       half = half;
       table = table;
-      held = λ i l. leb-true _ _ (scan_all (held_good h p) (rows_in p) 0 (omega arith) i (omega arith) (omega arith));
+      held = λ i l. leb-true _ _ (search_passes (held_good h p) (rows_in p) none i l);
     }
 
 -- and such a pond passes
-pub held_pass : {h : ℕ} {p : List ℕ} → PondOk h p → first_short h p ≡ rows_in p
-held_pass {h} {p} ok = scan_whole (held_good h p) (rows_in p) (λ i l. le-leb (h * discharge p i) (storage p i) (ok.held i l))
+pub held_pass : {h : ℕ} {p : List ℕ} → PondOk h p → first_short h p ≡ None
+held_pass {h} {p} ok = search_whole (held_good h p) (rows_in p) (λ i l. le-leb (h * discharge p i) (storage p i) (ok.held i l))

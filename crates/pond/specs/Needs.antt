@@ -1,4 +1,4 @@
--- What contracts ask of a pond and its states, and proofs use; no rule of document 01 is here.
+-- What contracts ask of a pond and its states, and proofs use; no rule of docs/SCOPE.md is here.
 use Rattle.std.specs.Prelude.{◌≡◌, List, ℕ, ◌+◌, ◌*◌, ◌≤◌, ◌<◌, length}
 use Rattle.pond.specs.declared.State.{State}
 use Rattle.pond.specs.PondRows.{row_width, most_pond_rows, rows_in, stage, storage, discharge, last_sum}

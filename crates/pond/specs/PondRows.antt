@@ -1,7 +1,8 @@
--- Document 01, 'Pond rows' and refusals 12 and 13: the pond's table, its X_i, the straight lines between them, and one pond step.
-use Rattle.std.specs.Prelude.{Bool, ◌&&◌, List, ℕ, ◌+◌, ◌-◌, ◌*◌, ◌/◌, ◌%◌, length, get_or, leb, ltb, eqb}
+-- docs/SCOPE.md, 'Pond rows' and refusals 12 and 13: the pond's table, its X_i, the straight lines between them, and one pond step.
+use Rattle.std.specs.Prelude.{Bool, ◌&&◌, Option, None, Some, Result, Ok, Err, List, ℕ, ◌+◌, ◌-◌, ◌*◌, ◌/◌, ◌%◌, length, get_or, leb, ltb, eqb}
 use Rattle.laws.specs.Pick.{pick}
 use Rattle.laws.specs.Scan.{scan}
+use Rattle.laws.specs.Search.{first_bad_of}
 use Rattle.laws.specs.Within.{within}
 use Rattle.pond.specs.declared.State.{State}
 
@@ -89,14 +90,28 @@ order_good p i =
 abbrev pub row_good : List ℕ → ℕ → Bool
 row_good p i = row_within p i && order_good p i
 
--- the first bad row, or the number of rows
-abbrev pub first_bad : List ℕ → ℕ
-first_bad p = scan (row_good p) (rows_in p) 0
+-- the first bad row
+abbrev pub first_bad : List ℕ → Option ℕ
+first_bad p = first_bad_of (row_good p) (rows_in p)
 
 -- refusal 13: row i has no less storage than h times its discharge
 abbrev pub held_good : ℕ → List ℕ → ℕ → Bool
 held_good h p i = leb (h * discharge p i) (storage p i)
 
--- the first row that has less, or the number of rows
-abbrev pub first_short : ℕ → List ℕ → ℕ
-first_short h p = scan (held_good h p) (rows_in p) 0
+-- the first row that has less
+abbrev pub first_short : ℕ → List ℕ → Option ℕ
+first_short h p = first_bad_of (held_good h p) (rows_in p)
+
+-- the place that a row found is refused at: rows count from 1 there
+abbrev pub row_place : Option ℕ → Option ℕ
+row_place None = None
+row_place (Some i) = Some (i + 1)
+
+-- refusal 12: the place that it is charged to, 0 for the count
+abbrev pub table_place : List ℕ → Option ℕ
+table_place p = pick (count_good p) (row_place (first_bad p)) (Some 0)
+
+-- the place that an answer is refused at
+abbrev pub place_of : {A : Type 0} → Result A ℕ → Option ℕ
+place_of (Ok a) = None
+place_of (Err i) = Some i

@@ -1,10 +1,56 @@
-// What may be wrong with a file where a number is asked; 0 for nothing.
-pub const NO_NUMBER: u64 = 1;
+// Why a file is no study's.
+use crate::items::Item;
+use std::fmt;
+use thiserror::Error;
 
-pub const TOO_LARGE: u64 = 2;
+/// The most that a count may be: a number, or what the rows ask for.
+#[derive(Clone, Copy, Debug, PartialEq, Eq)]
+pub enum Most {
+    Count(usize),
+    OneMoreThanRows,
+}
 
-pub const ENDED: u64 = 3;
+impl fmt::Display for Most {
+    fn fmt<W: fmt::Write>(&self, f: &mut fmt::Formatter<W>) -> fmt::Result {
+        match *self {
+            Most::Count(n) => write!(f, "{n}"),
+            Most::OneMoreThanRows => write!(f, "one more than the rows"),
+        }
+    }
+}
 
-pub const TOO_MANY: u64 = 4;
+/// What is wrong where a number, or the end, was expected.
+#[derive(Clone, Copy, Debug, PartialEq, Eq, Error)]
+pub enum FaultKind {
+    #[error("this is no whole number; expected: {0}")]
+    NoNumber(Item),
+    #[error("this number is above 18,446,744,073,709,551,615; expected: {0}")]
+    AboveAll(Item),
+    #[error("the file ends here; expected: {0}")]
+    Ended(Item),
+    #[error("too large: {item}, at most {most}")]
+    TooMany { item: Item, most: Most },
+    #[error("too many numbers; expected: the end of the file")]
+    LeftOver,
+}
 
-pub const LEFT_OVER: u64 = 5;
+/// The first fault of a file, and its line, from 1.
+#[derive(Clone, Copy, Debug, PartialEq, Eq, Error)]
+#[error("line {line}: {kind}")]
+pub struct Fault {
+    pub line: u64,
+    pub kind: FaultKind,
+}
+
+/// Why a file gives no study.
+#[derive(Clone, Copy, Debug, PartialEq, Eq, Error)]
+pub enum FileError {
+    #[error("cannot be opened")]
+    Unopened,
+    #[error("cannot be read")]
+    Unread,
+    #[error("is longer than 65,536 bytes")]
+    TooLong,
+    #[error(transparent)]
+    Fault(#[from] Fault),
+}

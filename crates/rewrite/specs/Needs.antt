@@ -1,4 +1,4 @@
--- What contracts ask of rows that are written anew, and of figures that are told; no rule of document 01 is here.
+-- What contracts ask of rows that are written anew, and of figures that are told; no rule of docs/SCOPE.md is here.
 use Rattle.std.specs.Prelude.{◌≡◌, List, ℕ, ◌/◌, ◌≤◌, length}
 use Rattle.hydrograph.specs.Needs.{RainOk}
 use Rattle.sums.specs.declared.Numbers.{Numbers}

@@ -1,6 +1,6 @@
--- Document 01, 'Altering one subarea': the rows that then stand, and what is told of them.
+-- docs/SCOPE.md, 'Altering one subarea': the rows that then stand, and what is told of them.
 -- Letters as in alter's definitions.
-use Rattle.std.specs.Prelude.{List, ℕ, ℤ, pos, ◌-ℤ◌}
+use Rattle.std.specs.Prelude.{List, ℕ, ℤ, pos, ◌-ℤ◌, Option}
 use Rattle.curve.specs.declared.Classes.{Classes}
 use Rattle.rows.specs.Figures.{figures_of}
 use Rattle.rows.specs.declared.RowFigures.{RowFigures}
@@ -24,7 +24,7 @@ abbrev pub change : ℕ → ℕ → ℤ
 change new old = pos new -ℤ pos old
 
 -- what is told of new figures f, with class areas c, and old figures o
-abbrev pub told : Classes → RowFigures → RowFigures → ℕ → Edited
+abbrev pub told : Classes → RowFigures → RowFigures → Option ℕ → Edited
 told c f o row =
     record {
       figures = figures_with c f;

@@ -3,23 +3,24 @@
 // of a cfs; half is half the step, in seconds.
 #![tactic(auto)]
 
-ghost use Rattle.std.specs.Prelude.{◌≡◌, ◌/◌, ◌≤◌, drop};
+ghost use Rattle.std.specs.Prelude.{◌≡◌, ◌/◌, ◌≤◌, None, drop};
 ghost use Rattle.rows.specs.Routing.{over_row, state_before};
 ghost use Rattle.checks.specs.Site.{rows_now, found, left};
 ghost use Rattle.alter.specs.Altering.{first_changed, changed_at};
 ghost use Rattle.rewrite.specs.Rewriting.{rerouted, change, told, edited_of};
 ghost use Rattle.rewrite.specs.Needs.{new_by, SwapFit, SmallOk};
 
+use pond::Pond;
 use rows::RowFigures;
 use study::Figures;
 use sums::Numbers;
 
-// The figures over the rows then standing, the first changed row (from 1; 0 if none), and the changes of peak outflow and
-// of total released, new less old.
-#[derive(Clone, Copy)]
+// The figures over the rows then standing, the first changed row (from 1), and the changes of peak outflow and of total
+// released, new less old.
+#[derive(Clone, Copy, Debug, Default, PartialEq, Eq)]
 pub struct Edited {
     pub figures: Figures,
-    pub changed: u64,
+    pub changed: Option<u64>,
     pub peak: i64,
     pub released: i64,
 }
@@ -32,15 +33,15 @@ fn difference(new: u64, old: u64) -> i64
     (new as i64) - (old as i64)
 }
 
-// The first changed row, from 1, of m rows; 0 where a scan ran to their end.
-fn changed_row(a: usize, m: usize) -> u64
+// The first changed row, from 1, of m rows, of which those before row a (from 0) stand as they were.
+fn changed_row(a: usize, m: usize) -> Option<u64>
     ensures { result ≡ changed_at a m }
 {
-    if a < m { a as u64 + 1 } else { 0 }
+    if a < m { Some(a as u64 + 1) } else { None }
 }
 
 // New and old figures put together.
-fn tell(own: RowFigures, old: RowFigures, classes: curve::Classes, changed: u64) -> Edited
+fn tell(own: RowFigures, old: RowFigures, classes: curve::Classes, changed: Option<u64>) -> Edited
     requires { SmallOk own × SmallOk old }
     ensures { result ≡ told classes own old changed }
 {
@@ -58,7 +59,7 @@ fn tell(own: RowFigures, old: RowFigures, classes: curve::Classes, changed: u64)
 pub fn finish(
     step: u64,
     rain: &[u64],
-    pond: &[u64],
+    pond: &Pond<'_>,
     old: Numbers,
     own: Numbers,
     inflow: &mut [u64],
@@ -67,15 +68,15 @@ pub fn finish(
     a: usize,
     classes: curve::Classes,
 ) -> Edited
-    requires swap_fit { SwapFit step rain.now pond.now old own (rows_now inflow.old outflow.old storage.old) }
+    requires swap_fit { SwapFit step rain.now pond.now.table.numbers.now old own (rows_now inflow.old outflow.old storage.old) }
+    requires half { pond.now.half ≡ step / 2 }
     requires a_value { a ≡ first_changed inflow.old (new_by step rain.now old own inflow.old) }
-    requires inflow_value { over_row (step / 2) pond.now (state_before outflow.old storage.old a) (drop a (new_by step rain.now old own inflow.old)) ≡ 0 }
-    ensures value { result ≡ edited_of (step / 2) classes pond.now (found inflow.old outflow.old storage.old) (rerouted (step / 2) pond.now (found inflow.old outflow.old storage.old) (new_by step rain.now old own inflow.old)) }
-    ensures storage_value { left inflow.new outflow.new storage.new ≡ rerouted (step / 2) pond.now (found inflow.old outflow.old storage.old) (new_by step rain.now old own inflow.old) }
+    requires inflow_value { over_row (step / 2) pond.now.table.numbers.now (state_before outflow.old storage.old a) (drop a (new_by step rain.now old own inflow.old)) ≡ None }
+    ensures value { result ≡ edited_of (step / 2) classes pond.now.table.numbers.now (found inflow.old outflow.old storage.old) (rerouted (step / 2) pond.now.table.numbers.now (found inflow.old outflow.old storage.old) (new_by step rain.now old own inflow.old)) }
+    ensures storage_value { left inflow.new outflow.new storage.new ≡ rerouted (step / 2) pond.now.table.numbers.now (found inflow.old outflow.old storage.old) (new_by step rain.now old own inflow.old) }
 {
-    let half = step / 2;
-    let before = rows::figures_of(pond, half, inflow, outflow, storage);
+    let before = rows::figures_of(pond, inflow, outflow, storage);
     alter::swap_rows(old, own, step, rain, a, &mut inflow[a..]);
-    let after = rows::write_from(pond, half, inflow, outflow, storage, a);
+    let after = rows::write_from(pond, inflow, outflow, storage, a);
     tell(after, before, classes, changed_row(a, inflow.len()))
 }

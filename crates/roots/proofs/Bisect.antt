@@ -9,6 +9,7 @@ use native.Mathlib.Omega.{arith}
 use borrow.Author.Tests.{leb-false, lt-leb}
 use Rattle.laws.proofs.Tests.{by_test}
 use Rattle.roots.specs.Largest.{largest}
+use Rattle.roots.specs.Needs.{Edge}
 
 -- a test that stays false once it is false
 abbrev pub Stays : (ℕ → Bool) → Type 0
@@ -74,27 +75,36 @@ module _ (test : ℕ → Bool) where
         below : test t ≡ true → t ≤ n
         below e = let low : ¬ (n + 1 ≤ t) = λ l. never e (stays (n + 1) t l f) in omega arith
 
--- The invariant of a loop that halves a range: its low end passes and its high end fails. Each law below answers one of its needs
+-- a range whose low end passes and whose high end fails
 pub record Bracket (test : ℕ → Bool) (low high : ℕ) : Type 0 where
   pub passes : test low ≡ true
   pub fails : test high ≡ false
   pub apart : low < high
 
-module _ (test : ℕ → Bool) where
-  -- where the loop begins
-  pub bracket_start : {high : ℕ} → test 0 ≡ true → test high ≡ false → 0 < high → Bracket test 0 high
-  bracket_start e f l = record { passes = e; fails = f; apart = l }
+-- where it has no number inside, its low end is the largest that passes
+pub bracket_end : (test : ℕ → Bool) {low high : ℕ} (n : ℕ) → Stays test → Bracket test low high → high ≤ low + 1 → high ≤ n + 1 → low ≡ largest test n
+bracket_end test {low} {high} n stays r close top =
+    let next : high ≡ low + 1 = omega arith in
+    sym (largest_found test stays n r.passes (rw next at r.fails) (omega arith))
 
-  -- after a turn at a middle that passes
-  pub bracket_up : {low mid high : ℕ} → Bracket test low high → test mid ≡ true → mid < high → Bracket test mid high
-  bracket_up r e l = record { passes = e; fails = r.fails; apart = l }
+-- an edge that answers of a test found, in such a range from 0 to the first number not tried, is one
+pub edge_bracket : (test : ℕ → Bool) {past t : ℕ} → Bracket test 0 past → Edge (λ t b. b ≡ test t) past t → Bracket test t (t + 1)
+edge_bracket test {past} {t} whole r =
+    record {
+      passes = ⊎_elim (λ w. subst (λ (x : ℕ). test x ≡ true) w whole.passes) (λ l. sym (r.here l)) (eq-or-lt_of_le least);
+      fails = ⊎_elim (λ w. subst (λ (x : ℕ). test x ≡ false) (sym w) whole.fails) (λ l. sym (r.next l)) (eq-or-lt_of_le most);
+      apart = omega arith;
+    }
+  where
+    least : 0 ≤ t
+    least = omega arith
 
-  -- after a turn at a middle that fails
-  pub bracket_down : {low mid high : ℕ} → Bracket test low high → test mid ≡ false → low < mid → Bracket test low mid
-  bracket_down r f l = record { passes = r.passes; fails = f; apart = l }
+    most : t + 1 ≤ past
+    most = omega (arith, r.below)
 
-  -- where the loop ends
-  pub bracket_end : {low high : ℕ} (n : ℕ) → Stays test → Bracket test low high → high ≤ low + 1 → high ≤ n + 1 → low ≡ largest test n
-  bracket_end {low} {high} n stays r close top =
-      let next : high ≡ low + 1 = omega arith in
-      sym (largest_found test stays n r.passes (rw next at r.fails) (omega arith))
+-- The invariant of a loop that narrows a range, by what the answers tell
+pub record Narrowed (tells : ℕ → Bool → Type 0) (past low high : ℕ) : Type 0 where
+  pub apart : low < high
+  pub within : high ≤ past
+  pub passes : 1 ≤ low → tells low true
+  pub fails : high < past → tells high false

@@ -9,8 +9,8 @@ use native.Mathlib.Omega.{arith}
 use borrow.Author.Tests.{leb-true, le-leb, lt-leb}
 use Rattle.wide.specs.Limbs.{room, Holds}
 use Rattle.roots.specs.Largest.{largest, powers, most_power}
-use Rattle.roots.specs.Needs.{RootOk}
-use Rattle.roots.proofs.Bisect.{Stays, bound_stays, largest_is, largest_found, largest_passes, Bracket, bracket_start, bracket_end}
+use Rattle.roots.specs.Needs.{RootOk, Edge}
+use Rattle.roots.proofs.Bisect.{Stays, bound_stays, largest_is, largest_found, largest_passes, Bracket, bracket_end, edge_bracket}
 
 module _ (a c d : ℕ) where
   -- a T that is past d is followed by none that is not
@@ -43,11 +43,16 @@ module _ (a c d : ℕ) where
 
   -- where a search begins: the bound is past d
   pub search_start : {high : ℕ} → 1 ≤ a → d < high ^ a * c → 0 < high → Bracket (powers a c d) 0 high
-  search_start l past h = bracket_start (powers a c d) (powers_zero l) (lt-leb _ _ past) h
+  search_start l past h = record { passes = powers_zero l; fails = lt-leb _ _ past; apart = h }
 
   -- where it ends: the low end is the largest
   pub search_end : {low high : ℕ} (n : ℕ) → Bracket (powers a c d) low high → high ≤ low + 1 → high ≤ n + 1 → low ≡ largest (powers a c d) n
   search_end n r close top = bracket_end (powers a c d) n powers_stay r close top
+
+  -- so the edge that it finds below the bound is the largest
+  pub search_found : {past t : ℕ} (n : ℕ) → 1 ≤ a → d < past ^ a * c → past ≡ n + 1 → Edge (λ t b. b ≡ powers a c d t) past t → t ≡ largest (powers a c d) n
+  search_found n l far e r =
+      search_end n (edge_bracket (powers a c d) (search_start l far (omega (arith, e))) r) (omega arith) (omega (arith, e, r.below))
 
 -- what is multiplied out at a T up to a bound fits, where it does at the bound
 pub tried_fits : (a c : ℕ) {t n : ℕ} → t ≤ n → n ^ a * c < room → c * t ^ a < room

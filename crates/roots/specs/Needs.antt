@@ -1,5 +1,5 @@
 -- What contracts ask of a root, and proofs use.
-use Rattle.std.specs.Prelude.{ℕ, ◌+◌, ◌*◌, ◌^◌, ◌≤◌, ◌<◌, List}
+use Rattle.std.specs.Prelude.{Bool, true, false, ℕ, ◌+◌, ◌*◌, ◌^◌, ◌≤◌, ◌<◌, List}
 use Rattle.wide.specs.Limbs.{value, room, Wide}
 use Rattle.roots.specs.Largest.{most_power}
 
@@ -16,8 +16,8 @@ pub record TryOk (t : ℕ) : Type 0 where
   pub some : 1 ≤ t
   pub tried : t ≤ most_power
 
--- a range that a search still has to narrow, and a guess at its root
-pub record RangeOk (low high guess : ℕ) : Type 0 where
-  pub apart : low + 1 < high
-  pub most : high ≤ most_power + 1
-  pub guessed : guess ≤ most_power
+-- a number below a bound that passes a test or is 0, where the next number does not pass or is the bound; tells is what an answer of the test tells
+pub record Edge (tells : ℕ → Bool → Type 0) (past t : ℕ) : Type 0 where
+  pub below : t < past
+  pub here : 1 ≤ t → tells t true
+  pub next : t + 1 < past → tells (t + 1) false

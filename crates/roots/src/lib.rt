@@ -3,6 +3,7 @@
 
 mod guess;
 pub mod power;
+mod search;
 pub mod square;
 
 // The first numbers that are not tried: a square root has 15 bits here, a root of any other power 23.

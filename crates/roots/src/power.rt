@@ -1,63 +1,36 @@
 // The root of a power over numbers that outgrow 64 bits.
-ghost use Rattle.std.specs.Prelude.{◌≡◌, ◌<◌, ◌≤◌};
+ghost use Rattle.std.specs.Prelude.{◌≡◌};
 ghost use Rattle.wide.specs.Limbs.{value};
 ghost use Rattle.roots.specs.Largest.{largest, powers, most_power};
-ghost use Rattle.roots.specs.Needs.{RootOk, TryOk, RangeOk};
+ghost use Rattle.roots.specs.Needs.{RootOk};
 
+use crate::search::{Test, largest};
 use crate::{PAST_POWER, guess};
 
-// Where to try next: at the guess, beside it, one further up, then in the middle.
-fn next(low: u64, high: u64, guess: u64) -> u64
-    requires { RangeOk low high guess }
-    ensures { (low < result) × (result < high) }
-{
-    if low < guess {
-        if guess < high {
-            return guess;
-        }
-    }
-    if high == guess {
-        return high - 1;
-    }
-    if guess <= low {
-        if low <= guess + 1 {
-            return low + 1;
-        }
-    }
-    (low + high) / 2
-}
-
 // T^power times bottom is at most top.
-fn passes(top: &[u64; wide::LIMBS], bottom: &[u64; wide::LIMBS], power: u64, t: u64) -> bool
-    requires { RootOk top.now bottom.now power × TryOk t }
-    ensures { result ≡ powers power (value bottom.now) (value top.now) t }
-{
-    let mut left = *bottom;
-    wide::times_power(&mut left, t, power);
-    wide::at_most(&left, top)
+#[derive(Clone, Copy, Debug, PartialEq, Eq)]
+struct Powers<'a> {
+    top: &'a [u64; wide::LIMBS],
+    bottom: &'a [u64; wide::LIMBS],
+    power: u64,
+    ghost ok: { RootOk top.now bottom.now power },
 }
 
-// The largest T that passes. Where the guess is right, two tries are enough; else the rest of the range is halved.
-fn search(top: &[u64; wide::LIMBS], bottom: &[u64; wide::LIMBS], power: u64, guess: u64) -> u64
-    requires { RootOk top.now bottom.now power × (guess ≤ most_power) }
-    ensures { result ≡ largest (powers power (value bottom.now) (value top.now)) most_power }
-{
-    let mut low: u64 = 0;
-    let mut high: u64 = PAST_POWER;
-    while low + 1 < high {
-        let mid = next(low, high, guess);
-        if passes(top, bottom, power, mid) {
-            low = mid;
-        } else {
-            high = mid;
-        }
+impl Test for Powers<'_> {
+    ghost tells = { λ s t b. b ≡ powers s.power (value s.bottom.now) (value s.top.now) t };
+
+    fn passes(&self, t: u64) -> bool {
+        let mut left = *self.bottom;
+        wide::times_power(&mut left, t, self.power);
+        wide::at_most(&left, self.top)
     }
-    low
 }
 
+// The largest T below 2^23 of which T^power times bottom is at most top.
 pub fn root(top: &[u64; wide::LIMBS], bottom: &[u64; wide::LIMBS], power: u64) -> u64
     requires { RootOk top.now bottom.now power }
     ensures { result ≡ largest (powers power (value bottom.now) (value top.now)) most_power }
 {
-    search(top, bottom, power, guess::root(top, bottom, power))
+    let guess = guess::root(top, bottom, power);
+    largest(&Powers { top, bottom, power }, PAST_POWER, Some(guess))
 }

@@ -1,13 +1,12 @@
 -- For a caller that runs a pond dry block by block: where its rows stand, and when no later row can go over. Assumes nothing.
 use mathlib.Core.Path.{◌≡◌, refl, ap}
-use mathlib.Core.Logic.{⊎_elim}
 use mathlib.Core.List.{List, [], ◌∷◌, ◌++◌}
 use Prim.Native.Nat.{ℕ, ◌+◌, ◌≤◌, ◌<◌}
 use native.Mathlib.Omega.{arith}
 use borrow.Author.Tests.{lt-ltb}
+use Rattle.std.specs.Prelude.{None, Some}
 use lib.ListN.{length, take, drop, take-append-drop, length-drop}
 use lib.Seq.{length-take-le, take_all, take-add}
-use Rattle.laws.proofs.Num.{below_or_not}
 use Rattle.pond.specs.PondRows.{last_sum, arrived, next}
 use Rattle.pond.specs.Needs.{PondOk, StateOk}
 use Rattle.pond.specs.declared.State.{State}
@@ -16,7 +15,7 @@ use Rattle.rows.specs.Routing.{end_of, passed, over_row, total}
 use Rattle.rows.specs.Needs.{dry_of}
 use Rattle.rows.proofs.Prefix.{end_append, passes_cons, passed_most, passed_append, passed_short, passed_part}
 use Rattle.rows.proofs.Reached.{reach_ok}
-use Rattle.rows.proofs.Told.{over_none, over_zero}
+use Rattle.rows.proofs.Told.{over_none, none_over, over_some}
 
 -- more inflow never makes X less
 pub arrived_rise : (h : ℕ) (st : State) (v w : ℕ) → v ≤ w → arrived h st v ≤ arrived h st w
@@ -85,7 +84,7 @@ module _ (h : ℕ) (p : List ℕ) (st : State) (vs : List ℕ) where
       left = take-append-drop n (drop from vs)
 
       -- a block that goes over nowhere
-      pub dried_turn : (dry_of h p last block).over ≡ 0 → Dried h p st vs (dry_of h p last block).last (from + n)
+      pub dried_turn : (dry_of h p last block).over ≡ None → Dried h p st vs (dry_of h p last block).last (from + n)
       unfolding dry_of
       dried_turn e =
           let all = over_none h p last block e in
@@ -97,22 +96,21 @@ module _ (h : ℕ) (p : List ℕ) (st : State) (vs : List ℕ) where
           }
 
       -- a block that goes over
-      pub dried_over : ((dry_of h p last block).over ≡ 0 → ⊥) → over_row h p st vs ≡ from + (dry_of h p last block).over
+      pub dried_over : {k : ℕ} → (dry_of h p last block).over ≡ Some k → over_row h p st vs ≡ Some (from + k)
       unfolding dry_of over_row
-      dried_over e =
-          let short : passed h p last block < length block
-          = ⊎_elim (λ (w : passed h p last block < length block). w) (λ (w : length block ≤ passed h p last block). absurd (e (over_zero h p last block (omega (arith, passed_most h p last block)))))
-          (below_or_not (passed h p last block) (length block)) in
+      dried_over {k} e =
+          let found = over_some h p last block e in
+          let short : passed h p last block < length block = omega (arith, found.0, found.1) in
           let same = passed_short h p last block (drop n (drop from vs)) short in
-          let sum : passed h p st vs ≡ from + passed h p last block = omega (arith, dried_passed, same, ap (passed h p last) left) in
-          rw (lt-ltb (passed h p last block) (length block) short, lt-ltb (passed h p st vs) (length vs) (omega (arith, sum, long))) (omega (arith, sum))
+          let sum : passed h p st vs ≡ from + k = omega (arith, dried_passed, same, ap (passed h p last) left, found.0) in
+          rw (lt-ltb (passed h p st vs) (length vs) (omega (arith, sum, found.1, long))) (ap Some sum)
 
     -- no row is left
-    pub dried_end : length vs ≤ from → over_row h p st vs ≡ 0
-    dried_end l = over_zero h p st vs (omega (arith, d.so_far, passed_most h p st vs))
+    pub dried_end : length vs ≤ from → over_row h p st vs ≡ None
+    dried_end l = none_over h p st vs (omega (arith, d.so_far, passed_most h p st vs))
 
     -- what still comes is at most `come`, and with all of it at once no row goes over
-    pub dried_safe : PondOk h p → StateOk h p st → (come : ℕ) → total (drop from vs) ≤ come → arrived h last come ≤ last_sum h p → over_row h p st vs ≡ 0
+    pub dried_safe : PondOk h p → StateOk h p st → (come : ℕ) → total (drop from vs) ≤ come → arrived h last come ≤ last_sum h p → over_row h p st vs ≡ None
     dried_safe ok so come least l =
         let all = later_sums ok last (drop from vs) (dried_ok ok so) (omega (arith, arrived_rise h last (total (drop from vs)) come least)) in
-        over_zero h p st vs (omega (arith, dried_passed, all, length-drop from vs, within))
+        none_over h p st vs (omega (arith, dried_passed, all, length-drop from vs, within))

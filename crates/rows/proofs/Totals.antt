@@ -1,11 +1,12 @@
 -- The inflow of a list of rows, and the loop that sums it. Assumes nothing.
-use mathlib.Core.Path.{◌≡◌, refl, sym, ap, ◌∙◌}
+use mathlib.Core.Path.{◌≡◌, refl}
 use mathlib.Core.List.{List, [], ◌∷◌}
 use Prim.Native.Nat.{ℕ, zero, suc, ◌+◌, ◌*◌, ◌≤◌, ◌<◌}
 use native.Mathlib.Omega.{arith}
 use lib.ListN.{length, take, drop}
+use Rattle.std.specs.Prelude.{fold, sum, ◌^◌}
 use Rattle.laws.specs.Sum.{sum_to}
-use Rattle.laws.proofs.Sums.{sum_more, sum_most}
+use Rattle.laws.proofs.Sums.{sum_most}
 use Rattle.rows.specs.Routing.{total}
 use Rattle.rows.specs.Needs.{InflowOk}
 use Rattle.rows.specs.Figures.{at}
@@ -33,25 +34,15 @@ total_sum (v ∷ vs) = omega (arith, total_sum vs, sum_first (at (v ∷ vs)) (le
 pub inflow_most : (vs : List ℕ) (n : ℕ) → InflowOk vs → n ≤ length vs → sum_to (at vs) n ≤ n * 1000000000000000
 inflow_most vs n come l = sum_most (at vs) 1000000000000000 n (λ i k. come.small i (omega arith))
 
--- the sum of the rows before row i
-pub record Summing (vs : List ℕ) (sum i : ℕ) : Type 0 where
-  pub so_far : i ≤ length vs
-  pub sums : sum ≡ sum_to (at vs) i
+fold_total : (b : ℕ) (vs : List ℕ) → fold (λ a x. a + x) b vs ≡ b + total vs
+unfolding total
+fold_total b [] = omega arith
+fold_total b (v ∷ vs) = omega (arith, fold_total (b + v) vs)
 
-module _ (vs : List ℕ) where
-  pub sum_start : Summing vs 0 0
-  unfolding sum_to
-  sum_start = record { so_far = omega arith; sums = refl }
+-- the sum over the list is the inflow
+pub sum_total : (vs : List ℕ) → sum vs ≡ total vs
+sum_total vs = omega (arith, fold_total 0 vs)
 
-  module _ (sum i : ℕ) (s : Summing vs sum i) where
-    pub sum_turn : i < length vs → Summing vs (sum + at vs i) (i + 1)
-    sum_turn l = record { so_far = omega arith; sums = omega (arith, s.sums, sum_more (at vs) i) }
-
-    -- a row more does not wrap
-    pub sum_room : InflowOk vs → length vs ≤ 2000 → i < length vs → sum + at vs i ≤ 2000000000000000000
-    sum_room come few l = omega (arith, s.sums, sum_more (at vs) i, inflow_most vs (i + 1) come (omega arith))
-
-    pub sum_end : length vs ≤ i → sum ≡ total vs
-    sum_end l =
-        let ends : i ≡ length vs = omega (arith, s.so_far) in
-        s.sums ∙ ap (sum_to (at vs)) ends ∙ sym (total_sum vs)
+-- and does not wrap
+pub sum_fits : (vs : List ℕ) → InflowOk vs → length vs ≤ 2000 → sum vs < 2 ^ 64
+sum_fits vs come few = omega (arith, sum_total vs, total_sum vs, inflow_most vs (length vs) come (omega arith))

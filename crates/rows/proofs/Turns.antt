@@ -7,6 +7,7 @@ use native.Mathlib.Omega.{arith}
 use borrow.Author.Tests.{eqb-false, ne_eqb, lt-ltb, le-ltb}
 use lib.ListN.{length, take}
 use lib.Dec.{eqb}
+use Rattle.std.specs.Prelude.{None, Some}
 use Rattle.laws.specs.Sum.{sum_to}
 use Rattle.laws.proofs.Sums.{sum_most}
 use Rattle.laws.proofs.Tests.{by_test}
@@ -127,14 +128,14 @@ module _ {h : ℕ} {p : List ℕ} (ok : PondOk h p) (st : State) (vs : List ℕ)
     dry_most = rw d.figures (max_most (row_sum h os ss) (last_sum h p) i under)
 
     -- a row that goes over
-    pub dry_over : last_sum h p < arrived h last (at vs i) → i < length vs → ◌≡◌ {A = Dry} (record { over = i + 1; kept = kept_of h p tally i; last = last }) (dry_of h p st vs)
+    pub dry_over : last_sum h p < arrived h last (at vs i) → i < length vs → ◌≡◌ {A = Dry} (record { over = Some i; kept = kept_of h p tally i; last = last }) (dry_of h p st vs)
     unfolding over_row dry_of
     dry_over t l =
         let e = pass_stop h p st i vs d.so_far (rw d.reached at t) in
         rw (e, lt-ltb i (length vs) l, d.reached, d.figures, kept_told ok st.outflow vs os ss i under)
 
     -- no row is left
-    pub dry_end : length vs ≤ i → ◌≡◌ {A = Dry} (record { over = 0; kept = kept_of h p tally i; last = last }) (dry_of h p st vs)
+    pub dry_end : length vs ≤ i → ◌≡◌ {A = Dry} (record { over = None; kept = kept_of h p tally i; last = last }) (dry_of h p st vs)
     unfolding over_row dry_of
     dry_end l =
         let e : passed h p st vs ≡ i = omega (arith, d.so_far, passed_most h p st vs) in

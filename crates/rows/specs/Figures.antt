@@ -1,7 +1,8 @@
--- Document 01, 'Figures of a study' and refusal 17: figures of rows that stand in the lists, and when rows can be a pond's.
-use Rattle.std.specs.Prelude.{Bool, ◌&&◌, List, ℕ, zero, suc, ◌+◌, ◌-◌, ◌*◌, max, length, get_or, leb, ltb, eqb}
+-- docs/SCOPE.md, 'Figures of a study' and refusal 17: figures of rows that stand in the lists, and when rows can be a pond's.
+use Rattle.std.specs.Prelude.{Bool, ◌&&◌, Option, List, ℕ, zero, suc, ◌+◌, ◌-◌, ◌*◌, max, length, get_or, leb, ltb, eqb}
 use Rattle.laws.specs.Pick.{pick}
 use Rattle.laws.specs.Scan.{scan}
+use Rattle.laws.specs.Search.{first_bad_of}
 use Rattle.laws.specs.Sum.{sum_to}
 use Rattle.pond.specs.PondRows.{last_sum, last_discharge, stage_at}
 use Rattle.rows.specs.declared.Kept.{Kept}
@@ -58,6 +59,6 @@ stands_within h most top o s = leb o most && (leb (h * o) s && leb (s + h * o) t
 abbrev pub stands_good : ℕ → List ℕ → ℕ → ℕ → Bool
 stands_good h p o s = stands_within h (last_discharge p) (last_sum h p) o s
 
--- the first row, from 0, that fails it, or their number
-abbrev pub first_forged : ℕ → List ℕ → List ℕ → List ℕ → ℕ
-first_forged h p os ss = scan (λ i. stands_good h p (at os i) (at ss i)) (length os) 0
+-- the first row, from 0, that fails it
+abbrev pub first_forged : ℕ → List ℕ → List ℕ → List ℕ → Option ℕ
+first_forged h p os ss = first_bad_of (λ i. stands_good h p (at os i) (at ss i)) (length os)

@@ -1,4 +1,4 @@
--- What a dry run and a tally keep, and what contracts ask of rows; no rule of document 01 is here.
+-- What a dry run and a tally keep, and what contracts ask of rows; no rule of docs/SCOPE.md is here.
 use Rattle.std.specs.Prelude.{◌≡◌, List, [], ◌∷◌, ℕ, ◌+◌, ◌*◌, ◌≤◌, ◌<◌, max, length, get_or, take, ltb, eqb}
 use Rattle.laws.specs.Pick.{pick}
 use Rattle.laws.specs.Limits.{most_rows}

@@ -1,5 +1,5 @@
--- Document 01, 'Pond rows': the pond step at each row of a list of inflow volumes.
-use Rattle.std.specs.Prelude.{List, [], ◌∷◌, map, ℕ, suc, ◌+◌, ◌-◌, ◌*◌, length, get_or, leb, ltb, eqb}
+-- docs/SCOPE.md, 'Pond rows': the pond step at each row of a list of inflow volumes.
+use Rattle.std.specs.Prelude.{List, [], ◌∷◌, Option, None, Some, map, ℕ, suc, ◌+◌, ◌-◌, ◌*◌, length, get_or, leb, ltb, eqb}
 use Rattle.laws.specs.Pick.{pick}
 use Rattle.pond.specs.PondRows.{last_sum, arrived, next, empty}
 use Rattle.pond.specs.declared.State.{State}
@@ -32,9 +32,9 @@ unfoldable pub passed : ℕ → List ℕ → State → List ℕ → ℕ
 passed h p st [] = 0
 passed h p st (v ∷ vs) = pick (leb (arrived h st v) (last_sum h p)) (suc (passed h p (next h p st v) vs)) 0
 
--- refusal 14: that row, from 1; 0 where every row passes
-unfoldable pub over_row : ℕ → List ℕ → State → List ℕ → ℕ
-over_row h p st vs = pick (ltb (passed h p st vs) (length vs)) (passed h p st vs + 1) 0
+-- refusal 14: that row, from 0; none where every row passes
+unfoldable pub over_row : ℕ → List ℕ → State → List ℕ → Option ℕ
+over_row h p st vs = pick (ltb (passed h p st vs) (length vs)) (Some (passed h p st vs)) None
 
 -- the inflow through the rows, and what they release: h times old plus new outflow, summed
 unfoldable pub total : List ℕ → ℕ

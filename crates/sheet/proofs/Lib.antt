@@ -1,1 +1,2 @@
 pub mod Numbers
+mod Lines

@@ -1,9 +1,8 @@
 -- What the contracts cite: three lists of rows, and the rows' numbers. Assumes nothing.
-use Rattle.std.specs.Prelude.{◌≡◌, ℕ, ◌+◌, ◌≤◌, List, length}
+use Rattle.std.specs.Prelude.{◌≡◌, ℕ, ◌+◌, ◌≤◌, List, length, Ok, Err}
 use Rattle.laws.specs.Limits.{last_number}
 use Rattle.reading.specs.Bounds.{rows_room}
-use Rattle.study.specs.declared.StudyAnswer.{StudyAnswer}
-use Rattle.study.specs.declared.StudyAnswer.TheVariants.{Refused, Done}
+use Rattle.study.specs.Study.{StudyAnswer}
 
 -- three lists of as many rows, no more than a study is lent
 pub record AsMany (inflow outflow storage : List ℕ) : Type 0 where
@@ -17,5 +16,5 @@ RowsNumbered first k = first + k ≤ last_number + 1
 
 -- what a done study leaves: all m rows have their numbers, and the peak's row is one of them
 abbrev pub Told : ℕ → ℕ → StudyAnswer → Type 0
-Told first m (Refused v) = Unit {0}
-Told first m (Done f) = RowsNumbered first m × ((1 ≤ f.row) × (f.row ≤ m))
+Told first m (Ok f) = RowsNumbered first m × ((1 ≤ f.row) × (f.row ≤ m))
+Told first m (Err v) = Unit {0}

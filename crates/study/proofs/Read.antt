@@ -1,5 +1,5 @@
 -- Only what is read counts: lists of subareas that agree within the counts of each record are answered alike, whatever stands behind them and in spare numbers. Assumes nothing.
-use mathlib.Core.Path.{◌≡◌, refl, ap, ◌∙◌}
+use mathlib.Core.Path.{◌≡◌, refl, sym, ap, ◌∙◌}
 use mathlib.Core.Bool.{Bool, ◌&&◌}
 use mathlib.Core.List.{List, [], ◌∷◌, ◌++◌, map}
 use Prim.Native.Nat.{ℕ, ◌/◌}
@@ -18,14 +18,15 @@ use Rattle.hydrograph.specs.InflowRows.{part, concentration_good, peak_good, wei
 use Rattle.pond.specs.PondRows.{empty}
 use Rattle.rows.specs.Routing.{outflows, storages}
 use Rattle.rows.specs.Figures.{figures_of}
-use Rattle.refusals.specs.declared.Refusal.{Refusal}
-use Rattle.refusals.specs.Refusals.{unless, first_of, first_refusal, after}
+use Rattle.refusals.specs.declared.Rule.TheVariants.{Subareas}
+use Rattle.refusals.specs.Refusals.{Line, unless, stopped, first_of, first_refusal, answer, after}
+use Rattle.laws.proofs.Places.{search_scan}
+use Rattle.laws.specs.Search.{first_bad_of}
 use Rattle.subarea.specs.declared.Setup.{Setup}
 use Rattle.subarea.specs.Records.{half_of, width, records_in, record_at, patch_count, patches, segment_count, segments, area_of, curve_tenths, time_of, peak_of, patches_pass, segments_pass, SameRecord, SameRead}
 use Rattle.checks.specs.Site.{Site, Rows, asked, with_subareas}
 use Rattle.checks.specs.Order.{ListTest, each, total, over_list, list_tests, list_lines, records_good, fore_lines, run_lines, pond_lines}
 use Rattle.inflow.specs.Inflow.{part_of, inflow_at, inflow_rows, inflow_of}
-use Rattle.study.specs.declared.StudyAnswer.TheVariants.{Refused, Done}
 use Rattle.study.specs.Study.{class_total, classes_all, figures_with, figures_all, routed, over_check, study_refusal, study_answer, study_rows}
 
 -- what is told of a record depends only on what is read of it
@@ -88,10 +89,15 @@ module _ (s u : List ℕ) (same : SameRead s u) where
   unfolding records_good
   records_read = rw same.long
 
+  search_read : (f : List ℕ → Bool) → ((r q : List ℕ) → SameRecord r q → f r ≡ f q) → first_bad_of (λ i. f (record_at s i)) (records_in s) ≡ first_bad_of (λ i. f (record_at u i)) (records_in u)
+  search_read f h =
+      search_scan (λ i. f (record_at s i)) (records_in s)
+      ∙ ap (λ (k : ℕ). stopped k (records_in s)) (scan_read f h)
+      ∙ ap (λ (n : ℕ). stopped (scan (λ i. f (record_at u i)) (records_in u) 0) n) count_read
+      ∙ sym (search_scan (λ i. f (record_at u i)) (records_in u))
+
   test_read : (t : ListTest) → Reads t → over_list s t ≡ over_list u t
-  test_read (each n good) h =
-      ap (λ (i : ℕ). first_of n i (records_in s)) (scan_read good h)
-      ∙ ap (λ (m : ℕ). first_of n (scan (λ i. good (record_at u i)) (records_in u) 0) m) count_read
+  test_read (each n good) h = ap (first_of n) (search_read good h)
   test_read (total n good) h = ap (λ (a : ℕ). unless n (good a)) (sum_read area_of area_read)
 
   over_read : (ts : List ListTest) → AllRead ts → map (over_list s) ts ≡ map (over_list u) ts
@@ -120,7 +126,7 @@ module _ (x : Site) (l : Rows) (u : List ℕ) (same : SameRead x.subareas u) whe
   -- 1 to 5
   pub run_read : run_lines x l ≡ run_lines (with_subareas x u) l
   run_read =
-      ap (λ (b : Bool). fore_lines x.setup x.rain l ++ (unless 5 b ∷ [])) (records_read x.subareas u same)
+      ap (λ (b : Bool). fore_lines x.setup x.rain l ++ (unless Subareas b ∷ [])) (records_read x.subareas u same)
 
   rows_read : inflow_of x l ≡ inflow_of (with_subareas x u) l
   rows_read = inflow_read x.subareas u same x.setup x.rain (asked l)
@@ -129,8 +135,8 @@ module _ (x : Site) (l : Rows) (u : List ℕ) (same : SameRead x.subareas u) whe
   unfolding study_refusal
   refusal_read =
       let ponds = pond_lines h x.pond in
-      ap (λ (run : List Refusal). first_refusal ((run ++ list_lines x.setup x.subareas) ++ ponds ++ (over_check h x.pond (inflow_of x l) ∷ []))) run_read
-      ∙ ap (λ (list : List Refusal). first_refusal ((run_lines (with_subareas x u) l ++ list) ++ ponds ++ (over_check h x.pond (inflow_of x l) ∷ []))) (lines_read x.subareas u same x.setup)
+      ap (λ (run : List Line). first_refusal ((run ++ list_lines x.setup x.subareas) ++ ponds ++ (over_check h x.pond (inflow_of x l) ∷ []))) run_read
+      ∙ ap (λ (list : List Line). first_refusal ((run_lines (with_subareas x u) l ++ list) ++ ponds ++ (over_check h x.pond (inflow_of x l) ∷ []))) (lines_read x.subareas u same x.setup)
       ∙ ap (λ (vs : List ℕ). first_refusal ((run_lines (with_subareas x u) l ++ list_lines x.setup u) ++ ponds ++ (over_check h x.pond vs ∷ []))) rows_read
 
   -- a study answers and leaves the same
@@ -139,12 +145,12 @@ module _ (x : Site) (l : Rows) (u : List ℕ) (same : SameRead x.subareas u) whe
   study_read =
       let new = study_refusal (with_subareas x u) l in
       let ws = inflow_of (with_subareas x u) l in
-      ap (λ (v : Refusal). after v (Done (figures_all h x.subareas x.pond (inflow_of x l))) (Refused v)) refusal_read
-      ∙ ap (λ (vs : List ℕ). after new (Done (figures_all h x.subareas x.pond vs)) (Refused new)) rows_read
-      ∙ ap (λ (c : Classes). after new (Done (figures_with c (figures_of h x.pond ws (outflows h x.pond empty ws) (storages h x.pond empty ws)))) (Refused new)) (classes_read x.subareas u same)
+      ap (λ (v : Line). answer v (figures_all h x.subareas x.pond (inflow_of x l))) refusal_read
+      ∙ ap (λ (vs : List ℕ). answer new (figures_all h x.subareas x.pond vs)) rows_read
+      ∙ ap (λ (c : Classes). answer new (figures_with c (figures_of h x.pond ws (outflows h x.pond empty ws) (storages h x.pond empty ws)))) (classes_read x.subareas u same)
 
   pub study_rows_read : study_rows x l ≡ study_rows (with_subareas x u) l
   unfolding study_rows
   study_rows_read =
-      ap (λ (v : Refusal). after v (routed h x.pond (inflow_of x l)) l) refusal_read
+      ap (λ (v : Line). after v (routed h x.pond (inflow_of x l)) l) refusal_read
       ∙ ap (λ (vs : List ℕ). after (study_refusal (with_subareas x u) l) (routed h x.pond vs) l) rows_read

@@ -4,6 +4,7 @@ use mathlib.Core.List.{List, ◌++◌, map}
 use Prim.Native.Nat.{ℕ, ◌-◌}
 use native.Mathlib.Omega.{arith}
 use lib.ListN.{length, take, drop}
+use Rattle.std.specs.Prelude.{None}
 use Rattle.pond.specs.PondRows.{empty}
 use Rattle.pond.specs.declared.State.{State}
 use Rattle.rows.specs.Routing.{states, passed, over_row, state_before}
@@ -16,7 +17,7 @@ module _ (h : ℕ) (p os ss : List ℕ) where
   none_before = record { each = λ i l. absurd (omega arith) }
 
   -- rows of which none goes over pass, from the first on
-  pub first_passes : (vs : List ℕ) → over_row h p empty vs ≡ 0 → passed h p (state_before os ss 0) (drop 0 vs) ≡ length vs - 0
+  pub first_passes : (vs : List ℕ) → over_row h p empty vs ≡ None → passed h p (state_before os ss 0) (drop 0 vs) ≡ length vs - 0
   unfolding state_before
   first_passes vs e = omega (arith, over_none h p empty vs e)
 

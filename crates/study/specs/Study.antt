@@ -1,6 +1,5 @@
--- Document 01, 'Figures of a study' and 'Refusal numbers and their order': what a study answers, and what it leaves in the row lists.
-use Rattle.std.specs.Prelude.{List, [], ◌∷◌, ◌++◌, ℕ, eqb}
-use Rattle.laws.specs.Pick.{pick}
+-- docs/SCOPE.md, 'Figures of a study' and 'Refusal numbers and their order': what a study answers, and what it leaves in the row lists.
+use Rattle.std.specs.Prelude.{List, [], ◌∷◌, ◌++◌, ℕ, Result, Ok, Err}
 use Rattle.laws.specs.Sum.{sum_to}
 use Rattle.curve.specs.CurveNumbers.{patches_in, class_area}
 use Rattle.curve.specs.declared.Classes.{Classes}
@@ -8,15 +7,15 @@ use Rattle.pond.specs.PondRows.{empty}
 use Rattle.rows.specs.Routing.{outflows, storages, over_row}
 use Rattle.rows.specs.Figures.{figures_of}
 use Rattle.rows.specs.declared.RowFigures.{RowFigures}
+use Rattle.refusals.specs.declared.Rule.{Rule}
+use Rattle.refusals.specs.declared.Rule.TheVariants.{Over}
 use Rattle.refusals.specs.declared.Refusal.{Refusal}
-use Rattle.refusals.specs.Refusals.{refuse, none, first_refusal, after}
+use Rattle.refusals.specs.Refusals.{Line, none, first_of, first_refusal, answer, after}
 use Rattle.subarea.specs.Records.{half_of, records_in, record_at, patches}
 use Rattle.checks.specs.Site.{Site, Rows}
 use Rattle.checks.specs.Order.{check_lines}
 use Rattle.inflow.specs.Inflow.{inflow_of}
 use Rattle.study.specs.declared.Figures.{Figures}
-use Rattle.study.specs.declared.StudyAnswer.{StudyAnswer}
-use Rattle.study.specs.declared.StudyAnswer.TheVariants.{Refused, Done}
 
 -- the area in a class over all subareas
 abbrev pub class_total : List ℕ → ℕ → ℕ
@@ -54,17 +53,17 @@ abbrev pub figures_all : ℕ → List ℕ → List ℕ → List ℕ → Figures
 figures_all h s p vs = with_classes s (figures_of h p vs (outflows h p empty vs) (storages h p empty vs))
 
 -- 14: the first row that goes over
-unfoldable pub over_check : ℕ → List ℕ → List ℕ → Refusal
-over_check h p vs = pick (eqb (over_row h p empty vs) 0) none (refuse 14 (over_row h p empty vs))
+unfoldable pub over_check : ℕ → List ℕ → List ℕ → Line
+over_check h p vs = first_of Over (over_row h p empty vs)
 
-abbrev pub over_of : Site → Rows → Refusal
+abbrev pub over_of : Site → Rows → Line
 over_of x l = over_check (half_of x.setup) x.pond (inflow_of x l)
 
--- document 01's order of a study, 1 to 14 with 20 after 2 and 19 after 3, line by line, and the first that refuses
-abbrev pub study_lines : Site → Rows → List Refusal
+-- docs/SCOPE.md's order of a study, 1 to 14 with 20 after 2 and 19 after 3, line by line, and the first that refuses
+abbrev pub study_lines : Site → Rows → List Line
 study_lines x l = check_lines x l ++ (over_of x l ∷ [])
 
-unfoldable pub study_refusal : Site → Rows → Refusal
+unfoldable pub study_refusal : Site → Rows → Line
 study_refusal x l = first_refusal (study_lines x l)
 
 -- a done study's figures and rows
@@ -72,24 +71,27 @@ abbrev pub study_figures : Site → Rows → Figures
 study_figures x l = figures_all (half_of x.setup) x.subareas x.pond (inflow_of x l)
 
 -- what a study answers, and the rows that it leaves
+abbrev pub StudyAnswer : Type 0
+StudyAnswer = Result Figures (Refusal Rule)
+
 unfoldable pub study_answer : Site → Rows → StudyAnswer
-study_answer x l = after (study_refusal x l) (Done (study_figures x l)) (Refused (study_refusal x l))
+study_answer x l = answer (study_refusal x l) (study_figures x l)
 
 unfoldable pub study_rows : Site → Rows → Rows
 study_rows x l = after (study_refusal x l) (routed (half_of x.setup) x.pond (inflow_of x l)) l
 
--- the number, the place and the values that an answer has in document 01: 0 and 0 when done, every value 0 when refused
-abbrev pub study_refusal_in : StudyAnswer → Refusal
-study_refusal_in (Refused v) = v
-study_refusal_in (Done f) = none
+-- the refusal and the values that an answer has in docs/SCOPE.md: none when done, every value 0 when refused
+abbrev pub study_refusal_in : StudyAnswer → Line
+study_refusal_in (Ok f) = none
+study_refusal_in (Err e) = Err e
 
 abbrev pub no_figures : Figures
 no_figures =
     record { inflow = 0; released = 0; storage = 0; peak = 0; row = 0; stage = 0; surfaces = 0; districts = 0; lots = 0; rural = 0 }
 
 abbrev pub study_values_in : StudyAnswer → Figures
-study_values_in (Refused v) = no_figures
-study_values_in (Done f) = f
+study_values_in (Ok f) = f
+study_values_in (Err e) = no_figures
 
 -- the values of a study's answer
 unfoldable pub study_values : Site → Rows → Figures

@@ -3,7 +3,7 @@
 // of a cfs; half is half the step, in seconds.
 #![tactic(auto)]
 
-ghost use Rattle.std.specs.Prelude.{◌≡◌, length};
+ghost use Rattle.std.specs.Prelude.{◌≡◌, None, length};
 ghost use Rattle.curve.specs.declared.Classes.{Classes};
 ghost use Rattle.pond.specs.PondRows.{empty};
 ghost use Rattle.rows.specs.Routing.{over_row};
@@ -14,17 +14,19 @@ ghost use Rattle.checks.specs.Needs.{SiteOk};
 ghost use Rattle.inflow.specs.Inflow.{inflow_rows, inflow_of};
 ghost use Rattle.listing.specs.Needs.{Listed};
 ghost use Rattle.study.specs.Study.{classes_all, figures_with, routed, study_figures, study_refusal, study_answer, study_rows, study_values, study_refusal_in, study_values_in};
-ghost use Rattle.study.specs.Needs.{classes_with, decided_answer, decided_rows, ClassesOk};
+ghost use Rattle.study.specs.Needs.{decided_answer, decided_rows};
 
 use laws::limits;
-use refusals::Refusal;
-use rows::RowFigures;
+use listing::Shapes;
+use pond::{Pond, State};
+use refusals::{Refusal, Rule};
+use rows::{Level, RowFigures};
 use subarea::Setup;
 
 // The figures of a study: total inflow, total released and the last storage in thousandths of a cubic foot, peak outflow in
 // thousandths of a cfs with the first row that has it (from 1), greatest stage in thousandths of a ft, and the area in each
 // class in hundredths of an acre.
-#[derive(Clone, Copy)]
+#[derive(Clone, Copy, Debug, Default, PartialEq, Eq)]
 pub struct Figures {
     pub inflow: u64,
     pub released: u64,
@@ -38,47 +40,16 @@ pub struct Figures {
     pub rural: u64,
 }
 
-// Every input has one of the two.
-#[derive(Clone, Copy)]
-pub enum StudyAnswer {
-    Refused(Refusal),
-    Done(Figures),
-}
-
 // The area of each class over all subareas.
 pub fn all_classes(subareas: &[u64]) -> curve::Classes
     requires { RecordsOk subareas.now × AllPatches subareas.now }
     ensures { result ≡ classes_all subareas.now }
 {
-    let n = subareas.len() / subarea::WIDTH;
-    let mut sum = curve::Classes {
-        surfaces: 0,
-        districts: 0,
-        lots: 0,
-        rural: 0,
-    };
-    let mut i = 0;
-    while i < n {
-        let a = subarea::WIDTH * i;
-        let e = a + subarea::WIDTH;
-        let own = subarea::classes(&subareas[a..e]);
-        sum = with_classes(sum, own);
-        i += 1;
+    let mut sum = curve::Classes::default();
+    for own in subarea::records(subareas) {
+        sum = sum + subarea::classes(own);
     }
     sum
-}
-
-// Class areas, each with one subarea's more.
-fn with_classes(sum: curve::Classes, own: curve::Classes) -> curve::Classes
-    requires { ClassesOk sum × ClassesOk own }
-    ensures { result ≡ classes_with sum own }
-{
-    curve::Classes {
-        surfaces: sum.surfaces + own.surfaces,
-        districts: sum.districts + own.districts,
-        lots: sum.lots + own.lots,
-        rural: sum.rural + own.rural,
-    }
 }
 
 // The figures of rows, with class areas.
@@ -105,22 +76,20 @@ fn finish(
     setup: Setup,
     rain: &[u64],
     subareas: &[u64],
-    pond: &[u64],
-    peaks: &[u32; limits::MOST_SUBAREAS],
-    totals: &[u32; limits::MOST_SUBAREAS],
+    pond: &Pond<'_>,
+    shapes: &Shapes,
     inflow: &mut [u64],
     outflow: &mut [u64],
     storage: &mut [u64],
 ) -> Figures
-    requires site_ok { SiteOk (site_now setup rain.now subareas.now pond.now) (rows_now inflow.old outflow.old storage.old) × Listed setup subareas.now peaks.now totals.now }
-    requires inflow_value { over_row (half_of setup) pond.now empty (inflow_rows setup rain.now subareas.now (length inflow.old)) ≡ 0 }
-    ensures value { result ≡ study_figures (site setup rain.now subareas.now pond.now) (found inflow.old outflow.old storage.old) }
-    ensures storage_value { left inflow.new outflow.new storage.new ≡ routed (half_of setup) pond.now (inflow_of (site setup rain.now subareas.now pond.now) (found inflow.old outflow.old storage.old)) }
+    requires site_ok { SiteOk (site_now setup rain.now subareas.now pond.now.table.numbers.now) (rows_now inflow.old outflow.old storage.old) × Listed setup subareas.now shapes.now }
+    requires half { pond.now.half ≡ half_of setup }
+    requires inflow_value { over_row (half_of setup) pond.now.table.numbers.now empty (inflow_rows setup rain.now subareas.now (length inflow.old)) ≡ None }
+    ensures value { result ≡ study_figures (site setup rain.now subareas.now pond.now.table.numbers.now) (found inflow.old outflow.old storage.old) }
+    ensures storage_value { left inflow.new outflow.new storage.new ≡ routed (half_of setup) pond.now.table.numbers.now (inflow_of (site setup rain.now subareas.now pond.now.table.numbers.now) (found inflow.old outflow.old storage.old)) }
 {
-    listing::fill_rows(
-        setup, rain, subareas, peaks, totals, inflow, outflow, storage,
-    );
-    let own = rows::write_from(pond, setup.step / 2, inflow, outflow, storage, 0);
+    listing::fill_rows(setup, rain, subareas, shapes, inflow, outflow, storage);
+    let own = rows::write_from(pond, inflow, outflow, storage, 0);
     figures_with(all_classes(subareas), own)
 }
 
@@ -134,27 +103,32 @@ fn work(
     inflow: &mut [u64],
     outflow: &mut [u64],
     storage: &mut [u64],
-) -> StudyAnswer
+) -> Result<Figures, Refusal>
     requires { SiteOk (site_now setup rain.now subareas.now pond.now) (rows_now inflow.old outflow.old storage.old) }
     ensures value { result ≡ decided_answer (site setup rain.now subareas.now pond.now) (found inflow.old outflow.old storage.old) }
     ensures storage_value { left inflow.new outflow.new storage.new ≡ decided_rows (site setup rain.now subareas.now pond.now) (found inflow.old outflow.old storage.old) }
 {
-    let mut peaks = [0u32; limits::MOST_SUBAREAS];
-    let mut totals = [0u32; limits::MOST_SUBAREAS];
-    listing::list_peaks(setup, subareas, &mut peaks, &mut totals);
-    let over = listing::over::over_row(setup, rain, subareas, pond, &peaks, &totals, inflow.len());
-    if over != 0 {
-        return StudyAnswer::Refused(Refusal {
-            number: 14,
-            place: over,
-        });
-    }
-    StudyAnswer::Done(finish(
-        setup, rain, subareas, pond, &peaks, &totals, inflow, outflow, storage,
+    let mut shapes = Shapes {
+        peaks: [0; limits::MOST_SUBAREAS],
+        totals: [0; limits::MOST_SUBAREAS],
+    };
+    listing::list_peaks(setup, subareas, &mut shapes);
+    let level = Level::new(&Pond::new(pond, setup.step / 2), State::default());
+    let over = listing::over::over_row(setup, rain, subareas, &level, &shapes, inflow.len());
+    refusals::refused_at(Rule::Over, over)?;
+    Ok(finish(
+        setup,
+        rain,
+        subareas,
+        &level.pond,
+        &shapes,
+        inflow,
+        outflow,
+        storage,
     ))
 }
 
-// A study: refused by number and place with every list as it was, or done with the rows written.
+// A study: refused by rule and place with every list as it was, or done with the rows written.
 pub fn run(
     setup: Setup,
     rain: &[u64],
@@ -163,15 +137,12 @@ pub fn run(
     inflow: &mut [u64],
     outflow: &mut [u64],
     storage: &mut [u64],
-) -> StudyAnswer
+) -> Result<Figures, Refusal>
     ensures value { result ≡ study_answer (site setup rain.now subareas.now pond.now) (found inflow.old outflow.old storage.old) }
     ensures storage_value { left inflow.new outflow.new storage.new ≡ study_rows (site setup rain.now subareas.now pond.now) (found inflow.old outflow.old storage.old) }
     ensures result_value { study_refusal_in result ≡ study_refusal (site setup rain.now subareas.now pond.now) (found inflow.old outflow.old storage.old) }
     ensures result_value_2 { study_values_in result ≡ study_values (site setup rain.now subareas.now pond.now) (found inflow.old outflow.old storage.old) }
 {
-    let v = checks::study_checks(setup, rain, subareas, pond, inflow, outflow, storage);
-    if v.number != 0 {
-        return StudyAnswer::Refused(v);
-    }
+    checks::study_checks(setup, rain, subareas, pond, inflow, outflow, storage)?;
     work(setup, rain, subareas, pond, inflow, outflow, storage)
 }

@@ -1,5 +1,9 @@
 -- Each promise of this crate allows one answer. Assumes nothing.
-use Rattle.laws.proofs.OneAnswer.{OneAnswer, same}
+use mathlib.Core.List.{List}
+use Prim.Native.Nat.{ℕ}
+use Rattle.laws.proofs.OneAnswer.{OneAnswer, OneReading, same}
+use Rattle.subarea.proofs.records.Kinds as records-kinds
+use Rattle.subarea.proofs.records.Reads as records-reads
 use Rattle.subarea.proofs.patches_pass.Kinds as patches-pass-kinds
 use Rattle.subarea.proofs.patches_pass.Reads as patches-pass-reads
 use Rattle.subarea.proofs.segments_pass.Kinds as segments-pass-kinds
@@ -12,6 +16,9 @@ use Rattle.subarea.proofs.time.Kinds as time-kinds
 use Rattle.subarea.proofs.time.Reads as time-reads
 use Rattle.subarea.proofs.peak.Kinds as peak-kinds
 use Rattle.subarea.proofs.peak.Reads as peak-reads
+
+pub records_one : OneReading records-kinds.ps records-kinds.r {L = List (List ℕ)} (λ κs v. v.now) records-reads.Post
+records_one κs a x y s t p q = same p q
 
 pub patches_pass_one : OneAnswer patches-pass-kinds.ps patches-pass-kinds.r patches-pass-reads.Post
 patches_pass_one κs a x y s t p q = same p q

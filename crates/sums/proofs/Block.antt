@@ -4,11 +4,10 @@ use mathlib.Core.List.{List, ◌++◌}
 use Prim.Native.Nat.{ℕ, ◌+◌, ◌-◌, ◌*◌, ◌≤◌, ◌<◌}
 use native.Mathlib.Omega.{arith}
 use borrow.Rule.Slice.PartMut.{put_mid}
-use lib.ListN.{length, get_or, take, drop, replicate, length-append, length-take, length-drop, get_or-append}
+use lib.ListN.{length, get_or, take, drop, replicate, length-append, length-drop, get_or-append}
 use lib.Seq.{length-take-le, get_or-append-add}
 use Rattle.laws.specs.Sum.{sum_to}
 use Rattle.laws.specs.Listed.{rows_from}
-use Rattle.laws.specs.Limits.{most_rows}
 use Rattle.laws.proofs.Listed.{rows_length, rows_at, rows_agree, rows_are}
 use Rattle.curve.specs.Needs.{CurveOk}
 use Rattle.hydrograph.specs.InflowRows.{runoff_at, weights, line_at}
@@ -21,14 +20,6 @@ use Rattle.sums.proofs.Hands.{whole_past, whole_early}
 -- a blank window
 abbrev pub blank : List ℕ
 blank = replicate (block_rows + hand) 0
-
--- no part of it after a hand is long
-pub blank_few : (k : ℕ) → length (take k (drop hand blank)) ≤ most_rows
-blank_few k = omega (arith, length-take k (drop hand blank))
-
--- and one of a row or more has a depth
-pub blank_some : (k : ℕ) → 1 ≤ k → 1 ≤ length (take k (drop hand blank))
-blank_some k l = omega (arith, length-take k (drop hand blank))
 
 -- before the hand after the first `done`: the m sums are of the weights laid so far, and the window and the line are ready
 pub record Summing (D : ℕ) (rain : List ℕ) (own : Numbers) (from m : ℕ) (sums q : List ℕ) (line done : ℕ) : Type 0 where
@@ -71,13 +62,6 @@ module _ (D : ℕ) (rain : List ℕ) (own : Numbers) (from m : ℕ) where
     -- as many sums as there were
     pub summing_long : length sums ≡ m
     summing_long = ap length so.summed ∙ rows_length (sum_of D rain own done) from m
-
-    -- what the next hand asks, of the sums as they are
-    pub summing_sums : sums ≡ rows_from (sum_of D rain own done) from (length sums)
-    summing_sums = so.summed ∙ ap (rows_from (sum_of D rain own done) from) (sym summing_long)
-
-    pub summing_window : WindowOk own.tenths rain from done (length sums - 1) q
-    summing_window = subst (λ (z : ℕ). WindowOk own.tenths rain from done (z - 1) q) (sym summing_long) so.window
 
     -- one hand more
     pub summing_turn : {sums' q' : List ℕ} {line' : ℕ} → sums' ≡ rows_from (sum_of D rain own (done + hand)) from (length sums)

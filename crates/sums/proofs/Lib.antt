@@ -1,6 +1,5 @@
 pub mod Hands
 pub mod Eights
-pub mod Slides
 pub mod Deepening
 pub mod Window
 pub mod Block

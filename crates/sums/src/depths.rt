@@ -6,11 +6,11 @@ ghost use Rattle.curve.specs.Needs.{CurveOk};
 ghost use Rattle.hydrograph.specs.InflowRows.{runoff_at};
 ghost use Rattle.hydrograph.specs.Needs.{RainOk};
 
-// a less b, 0 where b is more.
+// a less b, 0 where b is more. Kept for its promise (docs/PROMISES.md): the code itself calls std's.
 pub fn less(a: usize, b: usize) -> usize
     ensures { result ≡ a - b }
 {
-    if a < b { 0 } else { a - b }
+    a.saturating_sub(b)
 }
 
 // Q at t: the runoff of rain entry t, the last one's from the rain's end on.
@@ -45,15 +45,14 @@ pub fn fill_depths(tenths: u64, rain: &[u64], first: usize, back: usize, list: &
     requires { CurveOk tenths × (RainOk rain.now × ((1 ≤ first) × ((first ≤ 10000) × ((back ≤ 10000) × ((1 ≤ length list.old) × (length list.old ≤ most_rows)))))) }
     ensures { list.new ≡ rows_from (λ (k : ℕ). runoff_at tenths rain.now (k - back)) first (length list.old) }
 {
-    let mut last = depth_at(tenths, rain, less(first, back));
+    let mut last = depth_at(tenths, rain, first.saturating_sub(back));
     list[0] = last;
-    let mut i = 1;
-    while i < list.len() {
+    // By place: the first depth is found by itself, each next one from that before it.
+    for i in 1..list.len() {
         let k = first + i;
         if back < k {
             last = depth_after(tenths, rain, k - back, last);
         }
         list[i] = last;
-        i += 1;
     }
 }

@@ -11,7 +11,7 @@ ghost use Rattle.laws.specs.Limits.{most_rows};
 ghost use Rattle.laws.specs.Listed.{plus, rows_from};
 ghost use Rattle.hydrograph.specs.InflowRows.{weights, line_at};
 ghost use Rattle.hydrograph.specs.Needs.{hand, Below, most_depth, RainOk};
-ghost use Rattle.sums.specs.Needs.{block_rows, handful, sum_of, sum_in, NumbersOk, WindowOk, Slid, eight_at, EightOf, EightOk};
+ghost use Rattle.sums.specs.Needs.{block_rows, handful, sum_of, sum_in, NumbersOk, WindowOk, Slid};
 
 use hydrograph::HAND;
 
@@ -19,7 +19,7 @@ use hydrograph::HAND;
 pub const BLOCK: usize = 31;
 
 // A subarea's numbers: its curve number in tenths, its area, its time to peak, the sum of its weights.
-#[derive(Clone, Copy)]
+#[derive(Clone, Copy, Debug, PartialEq, Eq)]
 pub struct Numbers {
     pub tenths: u64,
     pub area: u64,
@@ -41,63 +41,26 @@ fn narrow(x: u64) -> u64
     x % 4294967296
 }
 
-// A hand of weights as numbers of their own, which the loop over the sums keeps in registers.
-#[derive(Clone, Copy)]
-struct Eight {
-    w0: u64,
-    w1: u64,
-    w2: u64,
-    w3: u64,
-    w4: u64,
-    w5: u64,
-    w6: u64,
-    w7: u64,
-}
-
-// The weights of a hand, each wide.
-fn eight_of(w: &[u32; HAND]) -> Eight
-    ensures { EightOf w.now result }
-{
-    Eight {
-        w0: laws::wide(w[0]),
-        w1: laws::wide(w[1]),
-        w2: laws::wide(w[2]),
-        w3: laws::wide(w[3]),
-        w4: laws::wide(w[4]),
-        w5: laws::wide(w[5]),
-        w6: laws::wide(w[6]),
-        w7: laws::wide(w[7]),
-    }
-}
-
 // A weight times a depth.
-fn term(w: u64, q: &[u64], i: usize) -> u64
+fn term(w: u32, q: &[u64], i: usize) -> u64
     requires { (w ≤ 1000000) × ((i < length q.now) × (get_or q.now i 0 ≤ most_depth)) }
     ensures { (result ≡ w * get_or q.now i 0) × (result ≤ 30000000000000) }
 {
-    w * narrow(q[i])
+    u64::from(w) * narrow(q[i])
 }
 
-// A hand of weights, each times its depth, of the sum in place i.
-fn hand_at(e: Eight, q: &[u64], i: usize) -> u64
-    requires { EightOk e × ((i + 7 < length q.now) × Below q.now (i + 8) most_depth) }
-    ensures { (result ≡ eight_at e q.now i) × (result ≤ 240000000000000) }
-{
-    let a = term(e.w0, q, i + 7) + term(e.w1, q, i + 6) + term(e.w2, q, i + 5);
-    let b = term(e.w3, q, i + 4) + term(e.w4, q, i + 3) + term(e.w5, q, i + 2);
-    a + b + term(e.w6, q, i + 1) + term(e.w7, q, i)
-}
-
-// Adds a hand of weights, each times its depth, to every sum. The innermost loop of everything.
+// Adds a hand of weights, each times its depth, to every sum. The innermost loop of everything: the weights stand as eight numbers,
+// which it keeps in registers, and no loop runs over them, which would be slower by half.
 fn lay(sums: &mut [u64], q: &[u64], w: &[u32; HAND])
     requires { (length sums.old + 7 ≤ length q.now) × (Below q.now (length sums.old + 7) most_depth × (Below w.now hand 1000000 × Below sums.old (length sums.old) 16000000000000000)) }
     ensures { sums.new ≡ plus (handful w.now q.now) 1 sums.old }
 {
-    let e = eight_of(w);
-    let mut i = 0;
-    while i < sums.len() {
-        sums[i] = sums[i] + hand_at(e, q, i);
-        i += 1;
+    let [w0, w1, w2, w3, w4, w5, w6, w7] = *w;
+    // By place: after `iter_mut` with a second list nothing is known of what was written.
+    for i in 0..sums.len() {
+        let a = term(w0, q, i + 7) + term(w1, q, i + 6) + term(w2, q, i + 5);
+        let b = term(w3, q, i + 4) + term(w4, q, i + 3) + term(w5, q, i + 2);
+        sums[i] += a + b + term(w6, q, i + 1) + term(w7, q, i);
     }
 }
 
@@ -106,11 +69,7 @@ fn slide(q: &mut [u64], n: usize)
     requires { (n ≤ block_rows) × (length q.old ≡ block_rows + hand) }
     ensures { Slid n q.old q.new }
 {
-    let mut x = n;
-    while x > 0 {
-        x -= 1;
-        q[x + HAND] = q[x];
-    }
+    q.copy_within(..n, HAND);
 }
 
 // Lays the hand of weights after the first `done` of `count` over the sums of rows from row `from` on, and readies the window for the
@@ -148,7 +107,7 @@ pub fn block_sums(own: Numbers, step: u64, rain: &[u64], from: usize, sums: &mut
     requires { NumbersOk step own × (RainOk rain.now × ((2 ≤ length sums.old) × ((length sums.old ≤ block_rows + 1) × (from + length sums.old ≤ most_rows + 1)))) }
     ensures { sums.new ≡ rows_from (sum_of step rain.now own (weights own.peak step)) from (length sums.old) }
 {
-    laws::clear(sums);
+    sums.fill(0);
     let count = (5 * own.peak / step) as usize;
     let n = sums.len() - 1;
     let mut q = [0u64; WINDOW];
@@ -156,6 +115,7 @@ pub fn block_sums(own: Numbers, step: u64, rain: &[u64], from: usize, sums: &mut
     depths::fill_depths(own.tenths, rain, from + 1, 0, &mut q[HAND..e]);
     let mut line = 0;
     let mut done = 0;
+    // As in `far_sums`.
     while done < count {
         if q[e - 1] == 0 {
             return;
@@ -171,15 +131,16 @@ pub fn far_sums(own: Numbers, step: u64, q: &[u64], lead: usize, sums: &mut [u64
     requires below { Below q.now (length q.now) most_depth × (length q.now ≤ most_rows) }
     ensures { sums.new ≡ rows_from (sum_in step own q.now (weights own.peak step)) (lead - 1) (length sums.old) }
 {
-    laws::clear(sums);
+    sums.fill(0);
     let count = (5 * own.peak / step) as usize;
     let mut w = [0u32; HAND];
     let mut line = 0;
     let mut done = 0;
+    // Not by `step_by`, nor a plain difference for `a`: either keeps the loop inside out of vectors, the second since the start then
+    // falls by the same number at each turn.
     while done < count {
         line = hydrograph::fill_weights(own.peak, step, count, done, line, &mut w);
-        // Not a plain difference: a start that falls by the same number at each turn keeps the loop inside out of vectors.
-        let a = depths::less(lead, done + HAND);
+        let a = lead.saturating_sub(done + HAND);
         lay(sums, &q[a..], &w);
         done += HAND;
     }

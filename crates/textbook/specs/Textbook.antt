@@ -5,8 +5,7 @@ use Rattle.laws.specs.Sum.{sum_to, sum_from1}
 use Rattle.laws.specs.Listed.{rows_from}
 use Rattle.runoff.specs.RunoffDepth.{depth}
 use Rattle.hydrograph.specs.InflowRows.{weight, weights, total_weight, volume_of}
-use Rattle.refusals.specs.declared.Refusal.{Refusal}
-use Rattle.refusals.specs.Refusals.{first_refusal, after}
+use Rattle.refusals.specs.Refusals.{Line, first_refusal, after}
 use Rattle.subarea.specs.declared.Setup.{Setup}
 use Rattle.subarea.specs.Records.{records_in, record_at, area_of, curve_tenths, peak_of}
 use Rattle.checks.specs.Site.{Site, Rows, asked}
@@ -61,7 +60,7 @@ abbrev pub textbook_of : Site → Rows → List ℕ
 textbook_of x l = textbook_rows x.setup x.rain x.subareas (asked l)
 
 -- the first refusal in the order 1 to 11, with 20 after 2 and 19 after 3, and the inflow list afterwards
-unfoldable pub textbook_refusal : Site → Rows → Refusal
+unfoldable pub textbook_refusal : Site → Rows → Line
 textbook_refusal x l = first_refusal (inflow_lines x l)
 
 abbrev pub textbook_after : Site → Rows → List ℕ

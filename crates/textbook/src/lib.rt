@@ -29,12 +29,11 @@ fn fill_added(tenths: u64, rain: &[u64], list: &mut [u64; limits::MOST_ROWS])
     ensures { Filled (λ i. added tenths rain.now (i + 1)) (rain_steps rain.now) list.new × (length list.new ≡ most_rows) }
 {
     let mut before = 0;
-    let mut t = 1;
-    while t < rain.len() {
+    // By place: after `iter_mut` with a second list nothing is known of what was written.
+    for t in 1..rain.len() {
         let through = runoff::depth(tenths, rain[t]);
         list[t - 1] = through - before;
         before = through;
-        t += 1;
     }
 }
 
@@ -49,16 +48,14 @@ fn lay_piece(piece: u64, row: usize, rows: &mut [u64])
     }
 }
 
-// Lays the pieces of weight j, one for each rain step: step t falls into row t + j - 1.
+// Lays the pieces of weight j, one for each rain step: step t + 1 falls into row t + j.
 fn lay_weight(weight: u64, j: usize, more: &[u64], rows: &mut [u64])
     requires { (weight ≤ most_weight) × ((1 ≤ j) × ((j ≤ most_weights) × (AddedOk more.now × LaidOk rows.old (j - 1)))) }
     ensures { rows.new ≡ plus (laid_by more.now weight j) 1 rows.old }
 {
-    let mut t = 0;
-    while t < more.len() {
+    for t in 0..more.len() {
         let piece = more[t] * weight;
-        t += 1;
-        lay_piece(piece, t + j - 1, rows);
+        lay_piece(piece, t + j, rows);
     }
 }
 
@@ -69,11 +66,9 @@ fn lay(peak: u64, step: u64, more: &[u64], rows: &mut [u64]) -> u64
 {
     let n = 5 * peak / step;
     let mut total = 0;
-    let mut j = 0;
-    while j < n {
-        j += 1;
-        let weight = hydrograph::weight(peak, step, j);
-        lay_weight(weight, j as usize, more, rows);
+    for j in 0..n {
+        let weight = hydrograph::weight(peak, step, j + 1);
+        lay_weight(weight, j as usize + 1, more, rows);
         total += weight;
     }
     total
@@ -86,13 +81,12 @@ fn add_parts(area: u64, total: u64, laid: &[u64], rows: &mut [u64])
 {
     let mut sum = 0;
     let mut before = 0;
-    let mut i = 0;
-    while i < rows.len() {
-        sum = sum + laid[i];
+    // By place: after `iter_mut` with a second list nothing is known of what was written.
+    for i in 0..rows.len() {
+        sum += laid[i];
         let through = hydrograph::volume(area, sum / total);
         rows[i] += through - before;
         before = through;
-        i += 1;
     }
 }
 
@@ -132,18 +126,14 @@ fn add_records(setup: Setup, rain: &[u64], subareas: &[u64], rows: &mut [u64])
     requires { ListOk setup subareas.now × (RainOk rain.now × ((length rain.now ≤ most_rows + 1) × ((length rows.old ≤ most_rows) × (rows.old ≡ rows_from (λ (k : ℕ). 0) 1 (length rows.old))))) }
     ensures { rows.new ≡ textbook_rows setup rain.now subareas.now (length rows.old) }
 {
-    let n = subareas.len() / subarea::WIDTH;
-    let mut i = 0;
-    while i < n {
-        let a = subarea::WIDTH * i;
-        let e = a + subarea::WIDTH;
-        add_record(setup, rain, &subareas[a..e], rows);
-        i += 1;
+    for own in subarea::records(subareas) {
+        add_record(setup, rain, own, rows);
     }
 }
 
 // The inflow rows: refusals 1 to 11, with 20 after 2 and 19 after 3, and no pond. Of the outflow and storage lists only the
 // lengths are read.
+#[tactic(auto, unfolding(crate::specs::Textbook::textbook_refusal))]
 pub fn run(
     setup: Setup,
     rain: &[u64],
@@ -151,14 +141,12 @@ pub fn run(
     rows: &mut [u64],
     outflow: &[u64],
     storage: &[u64],
-) -> Refusal
+) -> Result<(), Refusal>
     ensures value { result ≡ textbook_refusal (basin setup rain.now subareas.now) (found rows.old outflow.now storage.now) }
     ensures rows_after { rows.new ≡ textbook_after (basin setup rain.now subareas.now) (found rows.old outflow.now storage.now) }
 {
-    let v = checks::inflow_checks(setup, rain, subareas, rows, outflow, storage);
-    if v.number == 0 {
-        laws::clear(rows);
-        add_records(setup, rain, subareas, rows);
-    }
-    v
+    checks::inflow_checks(setup, rain, subareas, rows, outflow, storage)?;
+    rows.fill(0);
+    add_records(setup, rain, subareas, rows);
+    Ok(())
 }

@@ -1,5 +1,6 @@
 pub mod Roots
 pub mod Times
 pub mod Limits
+pub mod Segments
 pub mod Spare
 pub mod Answers

@@ -14,7 +14,6 @@ use Rattle.hydrograph.specs.InflowRows.{shape, time, ratio, line_at, on_line, we
 use Rattle.pond.specs.PondRows.{sum_at, lower, between, discharge_at, stage_at, arrived, settled, count_good, row_within, order_good}
 use Rattle.rows.specs.Routing.{states, passed, over_row, state_before}
 use Rattle.rows.specs.Figures.{at, release_at, max_to, peak_row, kept_to, figures_of, stands_within}
-use Rattle.refusals.specs.Refusals.{first_after}
 use Rattle.subarea.specs.Records.{record_at, segments, patches_pass, segments_pass, SameRecord, SameRead}
 use Rattle.checks.specs.Site.{Rows, with_subareas}
 use Rattle.checks.specs.Order.{lengths_good, step_good, entries_good, last_good, records_good}
@@ -28,7 +27,7 @@ use Rattle.edit.proofs.EditIsStudy.{chain, standing_balance}
 use Rattle.worked.specs.Witness.{parking_before, parking, site_on, site_of, lent, small, large, earlier, small_figures, enlarged, lawn, by_wholes, Witness}
 
 pub witness : Witness
-unfolding scan sum_to flat_good cover_table cover_number class_of total_area weighted nearest mean_tenths composite_tenths patch_within patches_good depth whole_depth segment_time concentration time_to_peak rule_good sheet_limit segment_within place_within segments_good shape time ratio line_at on_line weight total_weight runoff_at depth_released volume_of part concentration_good peak_good weights_good sum_at lower between discharge_at stage_at arrived settled count_good row_within order_good states passed over_row state_before max_to peak_row kept_to figures_of stands_within first_after patches_pass segments_pass lengths_good step_good entries_good last_good records_good rows_from over_check study_refusal study_answer study_rows swapped first_changed place_good inflow_fits over_from edit_refusal edited_of edit_answer edit_rows
+unfolding scan sum_to flat_good cover_table cover_number class_of total_area weighted nearest mean_tenths composite_tenths patch_within patches_good depth whole_depth segment_time concentration time_to_peak rule_good sheet_limit segment_within place_within segments_good shape time ratio line_at on_line weight total_weight runoff_at depth_released volume_of part concentration_good peak_good weights_good sum_at lower between discharge_at stage_at arrived settled count_good row_within order_good states passed over_row state_before max_to peak_row kept_to figures_of stands_within patches_pass segments_pass lengths_good step_good entries_good last_good records_good rows_from over_check study_refusal study_answer study_rows swapped first_changed place_good inflow_fits over_from edit_refusal edited_of edit_answer edit_rows
 witness =
     record {
       study_answers = refl;

@@ -1,17 +1,16 @@
 -- A witness that the definitions are of something: one small study that is done, one edit of its rows that is done, and two that are refused; one edit of a row that no study leaves; and one study of a mean that is no whole number.
-use Rattle.std.specs.Prelude.{◌≡◌, List, [], ◌∷◌, ◌++◌, ℕ, ◌-◌, ◌*◌, ◌/◌, pos, replicate}
+use Rattle.std.specs.Prelude.{◌≡◌, List, [], ◌∷◌, ◌++◌, ℕ, ◌-◌, ◌*◌, ◌/◌, pos, replicate, Ok, Err, Some}
 use Rattle.curve.specs.CurveNumbers.{patch_width, most_patches, total_area, weighted, nearest}
 use Rattle.runoff.specs.RunoffDepth.{whole_depth}
 use Rattle.travel.specs.TravelTime.{segment_width, most_segments}
 use Rattle.hydrograph.specs.InflowRows.{weight, total_weight, volume_of}
-use Rattle.refusals.specs.Refusals.{refuse}
+use Rattle.refusals.specs.declared.Rule.{Rule}
+use Rattle.refusals.specs.declared.Rule.TheVariants.{Patches, Over}
 use Rattle.checks.specs.Site.{Site, Rows}
 use Rattle.study.specs.declared.Figures.{Figures}
-use Rattle.study.specs.declared.StudyAnswer.TheVariants as Study
 use Rattle.study.specs.Study.{study_answer, study_rows}
 use Rattle.rewrite.specs.declared.Edited.{Edited}
-use Rattle.edit.specs.declared.EditAnswer.TheVariants.{Refused, Done}
-use Rattle.edit.specs.Edit.{edit_answer, edit_rows}
+use Rattle.edit.specs.Edit.{EditAnswer, edit_answer, edit_rows}
 use Rattle.worked.specs.Lines.{two_rows}
 
 -- a subarea of an area: one patch of cover code 4 on soil group A, and one segment of kind 3, 360 ft at 1 ft/s (Tc 360, Tp 246 at D 60); and what stands in the spare numbers and behind them
@@ -59,7 +58,7 @@ large_figures =
     record { inflow = 5132; released = 1260; storage = 3872; peak = 42; row = 1; stage = 427; surfaces = 2; districts = 0; lots = 0; rural = 0 }
 
 abbrev pub enlarged : Edited
-enlarged = record { figures = large_figures; changed = 1; peak = pos 21; released = pos 630 }
+enlarged = record { figures = large_figures; changed = Some 1; peak = pos 21; released = pos 630 }
 
 -- the row of area 1 by the rule before Q-3 (Tp 216), and what an edit of it to area 2 leaves and tells
 abbrev pub earlier : Rows
@@ -72,7 +71,7 @@ abbrev pub mixed_told : Edited
 mixed_told =
     record {
       figures = record { inflow = 6116; released = 1500; storage = 4616; peak = 50; row = 1; stage = 509; surfaces = 2; districts = 0; lots = 0; rural = 0 };
-      changed = 1;
+      changed = Some 1;
       peak = pos 21;
       released = pos 630;
     }
@@ -91,21 +90,25 @@ by_tenths = one_row 1122 9 852
 abbrev pub by_wholes : Rows
 by_wholes = one_row 1161 9 891
 
+-- an edit refused by a rule at a place
+abbrev pub refused_by : Rule → ℕ → EditAnswer
+refused_by rule place = Err (record { rule = rule; place = place })
+
 -- a study of area 1 is done; an edit of its rows to area 2 is done; to area 0 it is refused with 6, to area 5 with 14, and the rows stay
 pub record Witness : Type 0 where
-  pub study_answers : study_answer (site_of 1) lent ≡ Study.Done small_figures
+  pub study_answers : study_answer (site_of 1) lent ≡ Ok small_figures
   pub study_leaves : study_rows (site_of 1) lent ≡ small
-  pub edit_answers : edit_answer (site_of 1) small 1 (parking 2) ≡ Done enlarged
+  pub edit_answers : edit_answer (site_of 1) small 1 (parking 2) ≡ Ok enlarged
   pub edit_leaves : edit_rows (site_of 1) small 1 (parking 2) ≡ large
-  pub no_area : edit_answer (site_of 1) small 1 (parking 0) ≡ Refused (refuse 6 1)
+  pub no_area : edit_answer (site_of 1) small 1 (parking 0) ≡ refused_by Patches 1
   pub no_area_leaves : edit_rows (site_of 1) small 1 (parking 0) ≡ small
-  pub too_large : edit_answer (site_of 1) small 1 (parking 5) ≡ Refused (refuse 14 1)
+  pub too_large : edit_answer (site_of 1) small 1 (parking 5) ≡ refused_by Over 1
   pub too_large_leaves : edit_rows (site_of 1) small 1 (parking 5) ≡ small
   -- the row from before is edited like any other, though a study that is lent it leaves another
   pub again_leaves : study_rows (site_of 1) earlier ≡ small
-  pub earlier_answers : edit_answer (site_of 1) earlier 1 (parking 2) ≡ Done mixed_told
+  pub earlier_answers : edit_answer (site_of 1) earlier 1 (parking 2) ≡ Ok mixed_told
   pub earlier_leaves : edit_rows (site_of 1) earlier 1 (parking 2) ≡ mixed
-  -- over tenths a study leaves another row than document 01's runoff of the mean rounded to a whole gives
+  -- over tenths a study leaves another row than docs/SCOPE.md's runoff of the mean rounded to a whole gives
   pub lawn_leaves : study_rows (site_on lawn) lent ≡ by_tenths
   pub lawn_again : study_rows (site_on lawn) by_wholes ≡ by_tenths
   pub lawn_by_wholes : volume_of 2 (weight 246 60 1 * whole_depth (nearest (weighted lawn_patches) (total_area lawn_patches)) 3000 / total_weight 246 60) ≡ 1161

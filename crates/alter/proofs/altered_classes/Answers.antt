@@ -1,13 +1,11 @@
 -- `alter::altered_classes` meets its contract. Assumes nothing.
 use mathlib.Core.Path.{◌≡◌, ap, ◌∙◌}
 use mathlib.Core.List.{List}
-use Prim.Native.Nat.{ℕ, ◌-◌, ◌*◌, ◌<◌}
-use native.Mathlib.Omega.{arith}
+use Prim.Native.Nat.{ℕ}
 use Rattle.curve.specs.CurveNumbers.{classes_of}
 use Rattle.curve.specs.declared.Classes.{Classes}
-use Rattle.subarea.specs.Records.{width, records_in, patches}
+use Rattle.subarea.specs.Records.{patches}
 use Rattle.study.specs.Study.{classes_all}
-use Rattle.subarea.proofs.Subareas.{part_is, record_length}
 use Rattle.alter.specs.Altering.{old_record}
 use Rattle.alter.specs.Needs.{classes_swapped}
 use Rattle.alter.proofs.Ground.{classes_altered, swap_ok}
@@ -17,14 +15,7 @@ use Rattle.alter.proofs.altered_classes.Goals.{After-classes-old}
 -- the class areas of the old record
 old : (c : After-classes-old) → c.classes-old.result ≡ classes_of (patches (old_record c.args.subareas.now c.args.place))
 old c =
-    c.classes-old.ensures ∙ ap (λ (z : List ℕ). classes_of (patches z)) (part_is (width * (c.args.place - 1)) width c.args.subareas.now)
-
-pub classes-old-requires : goal.classes-old-requires
-classes-old-requires c =
-    let k = c.args.place in
-    let list = c.args.subareas.now in
-    let here : k - 1 < records_in list = omega (arith, c.requires.place.listed, c.requires.place.last) in
-    rw (part_is (width * (k - 1)) width list) (record_length list c.requires.place.records (k - 1) here, c.requires.patched.each (k - 1) here)
+    c.classes-old.ensures ∙ ap (λ (z : List ℕ). classes_of (patches z)) c.old_record.ensures.own
 
 pub swap_classes-requires : goal.swap_classes-requires
 swap_classes-requires c =

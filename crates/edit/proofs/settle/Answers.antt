@@ -1,26 +1,29 @@
 -- `edit::settle` meets its contract. Assumes nothing.
 use mathlib.Core.Path.{◌≡◌, sym, ap, ◌∙◌, subst}
 use mathlib.Core.List.{List}
-use Prim.Native.Nat.{ℕ, ◌+◌, ◌-◌, ◌/◌, ◌≤◌}
+use Prim.Native.Nat.{ℕ, ◌+◌, ◌-◌, ◌/◌, ◌≤◌, ◌<◌}
 use native.Mathlib.Omega.{arith}
 use lib.ListN.{length, take, drop, length-drop}
 use lib.Seq.{length-take-le}
 use Rattle.laws.specs.Limits.{most_rows}
 use Rattle.laws.proofs.Fill.{tail_part}
-use Rattle.pond.specs.Needs.{StateOk}
+use Rattle.pond.specs.declared.Pond.{Pond}
 use Rattle.pond.specs.declared.State.{State}
 use Rattle.rows.specs.Routing.{over_row, state_before, total}
-use Rattle.rows.proofs.Coming.{over_most}
+use Rattle.rows.proofs.Told.{over_some}
 use Rattle.checks.specs.Site.{Rows, rows_now}
-use Rattle.refusals.specs.Refusals.{refuse}
+use Rattle.std.specs.Prelude.{Ok, Option, Some}
+use Rattle.refusals.specs.declared.Rule.TheVariants.{Over}
+use Rattle.refusals.specs.Refusals.{first_of}
+use Rattle.refusals.proofs.Orders.{refused_answer, refused_old, passed_answer, passed_new}
 use Rattle.alter.specs.Altering.{first_changed}
-use Rattle.edit.specs.declared.EditAnswer.TheVariants.{Refused, Done}
 use Rattle.fitting.specs.Needs.{new_after, TailFit}
-use Rattle.fitting.proofs.Swaps.{part_inflow}
 use Rattle.rewrite.specs.Needs.{new_by}
 use Rattle.rewrite.proofs.Swaps.{new_long, tail_new, tail_fit}
 use Rattle.rewrite.proofs.Changed.{changed_most, changed_total, before_ok}
-use Rattle.edit.proofs.Settling.{over_stops, over_passes}
+use Rattle.rewrite.specs.Rewriting.{rerouted, edited_of}
+use Rattle.edit.specs.Edit.{later, over_from}
+use Rattle.edit.specs.Needs.{settled_from}
 use Rattle.edit.proofs.settle.Goals as goal
 use Rattle.edit.proofs.settle.Goals.{After-first_swapped-a, After-over_from-over, Start}
 
@@ -32,7 +35,7 @@ abbrev ws : Start → List ℕ
 ws s = new_by s.args.step s.args.rain.now s.args.old s.args.own s.args.inflow.now
 
 long : (s : Start) → length (ws s) ≡ length s.args.inflow.now
-long s = new_long s.args.step s.args.rain.now s.args.pond.now s.args.old s.args.own s.args.inflow.now
+long s = new_long s.args.step s.args.rain.now s.args.pond.now.table.numbers.now s.args.old s.args.own s.args.inflow.now
 
 few : (s : Start) → length s.args.inflow.now ≤ most_rows
 few s = omega (arith, s.requires.swap_fit.out_long, s.requires.swap_fit.rows.few)
@@ -60,7 +63,7 @@ tail_is : (f : After-first_swapped-a)
 tail_is f =
     let s = S f in
     ap (new_after s.args.step s.args.rain.now s.args.old s.args.own (A f)) (tail_part s.args.inflow.now (A f))
-    ∙ tail_new s.args.step s.args.rain.now s.args.pond.now s.args.old s.args.own (A f) s.args.inflow.now
+    ∙ tail_new s.args.step s.args.rain.now s.args.pond.now.table.numbers.now s.args.old s.args.own (A f) s.args.inflow.now
 
 -- once 14 was looked for
 abbrev F : After-over_from-over → After-first_swapped-a
@@ -70,27 +73,28 @@ abbrev st : After-over_from-over → ℕ → State
 st g z = state_before (S (F g)).args.outflow.now (S (F g)).args.storage.now z
 
 -- the row that it tells
-told : (g : After-over_from-over) → g.over_from-over.result ≡ over_row ((S (F g)).args.step / 2) (S (F g)).args.pond.now (st g (A (F g))) (drop (A (F g)) (ws (S (F g))))
+told : (g : After-over_from-over) → g.over_from-over.result ≡ over_row ((S (F g)).args.step / 2) (S (F g)).args.pond.now.table.numbers.now (st g (A (F g))) (drop (A (F g)) (ws (S (F g))))
 told g =
     let s = S (F g) in
-    let h = s.args.step / 2 in
-    let p = s.args.pond.now in
-    g.over_from-over.ensures
-    ∙ ap (over_row h p g.state_before-state.result) (tail_is (F g))
-    ∙ ap (λ (z : State). over_row h p z (drop (A (F g)) (ws s))) g.state_before-state.ensures
+    let pond = g.new-level.ensures.pond in
+    let half = ap (λ (v : Pond). v.half) pond ∙ s.requires.half in
+    let numbers = ap (λ (v : Pond). v.table.numbers.now) pond in
+    let state = g.new-level.ensures.state ∙ g.state_before-state.ensures in
+    g.over_from-over.ensures.value ∙ (λ i. over_row (half i) (numbers i) (state i) (tail_is (F g) i))
 
 abbrev Changed : After-over_from-over → ℕ
 Changed g = first_changed (S (F g)).args.inflow.now (ws (S (F g)))
 
 -- counted from the first changed row
-over_is : (g : After-over_from-over) → g.over_from-over.result ≡ over_row ((S (F g)).args.step / 2) (S (F g)).args.pond.now (st g (Changed g)) (drop (Changed g) (ws (S (F g))))
-over_is g = let s = S (F g) in told g ∙ ap (λ (z : ℕ). over_row (s.args.step / 2) s.args.pond.now (st g z) (drop z (ws s))) (F g).first_swapped-a.ensures
+over_is : (g : After-over_from-over) → g.over_from-over.result ≡ over_row ((S (F g)).args.step / 2) (S (F g)).args.pond.now.table.numbers.now (st g (Changed g)) (drop (Changed g) (ws (S (F g))))
+over_is g = let s = S (F g) in told g ∙ ap (λ (z : ℕ). over_row (s.args.step / 2) s.args.pond.now.table.numbers.now (st g z) (drop z (ws s))) (F g).first_swapped-a.ensures
 
 -- and stands in the lists
-placed : (g : After-over_from-over) → A (F g) + g.over_from-over.result ≤ 4000
-placed g =
+placed : (g : After-over_from-over) {i : ℕ} → g.over_from-over.result ≡ Some i → A (F g) + i < length (S (F g)).args.inflow.now
+placed g q =
     let s = S (F g) in
-    omega (arith, told g, over_most (s.args.step / 2) s.args.pond.now (st g (A (F g))) (drop (A (F g)) (ws s)), length-drop (A (F g)) (ws s), most (F g), long s, few s)
+    let row = (over_some (s.args.step / 2) s.args.pond.now.table.numbers.now (st g (A (F g))) (drop (A (F g)) (ws s)) (sym (told g) ∙ q)).1 in
+    omega (arith, row, length-drop (A (F g)) (ws s), most (F g), long s)
 
 pub state_before-state-requires : goal.state_before-state-requires
 state_before-state-requires c =
@@ -102,11 +106,6 @@ slice_bounds-sum_of-end c = most (goal.at.slice_bounds-sum_of-end c).After-first
 
 pub slice_bounds-sum_of-end-2 : goal.slice_bounds-sum_of-end-2
 slice_bounds-sum_of-end-2 c = sym (length-take-le _ _ (most (goal.at.slice_bounds-sum_of-end-2 c).After-first_swapped-a))
-
-pub sum_of-requires : goal.sum_of-requires
-sum_of-requires c =
-    let vs = (S (goal.at.sum_of-requires c).After-first_swapped-a).args.inflow.now in
-    (part_inflow vs 0 (A (goal.at.sum_of-requires c).After-first_swapped-a) (S (goal.at.sum_of-requires c).After-first_swapped-a).requires.swap_fit.found (omega arith), omega (arith, length-take-le (A (goal.at.sum_of-requires c).After-first_swapped-a) vs (most (goal.at.sum_of-requires c).After-first_swapped-a), most (goal.at.sum_of-requires c).After-first_swapped-a, few (S (goal.at.sum_of-requires c).After-first_swapped-a)))
 
 pub overflow_sub-come : goal.overflow_sub-come
 overflow_sub-come c = omega (arith, c.sum_of.ensures, comes (goal.at.overflow_sub-come c).After-first_swapped-a)
@@ -120,27 +119,57 @@ slice_bounds-over_from-count c = most (goal.at.slice_bounds-over_from-count c).A
 pub slice_bounds-over_from-start : goal.slice_bounds-over_from-start
 slice_bounds-over_from-start c = most (goal.at.slice_bounds-over_from-start c).After-first_swapped-a
 
+pub new-level-requires : goal.new-level-requires
+new-level-requires c =
+    let f = (goal.at.new-level-requires c).After-first_swapped-a in
+    let fit = (S f).requires.swap_fit in
+    rw (c.requires.half, c.state_before-state.ensures)
+    (before_ok fit.pond c.args.outflow.now c.args.storage.now fit.rows (A f) (omega (arith, most f, fit.out_long)))
+
 pub over_from-over-requires : goal.over_from-over-requires
 over_from-over-requires c =
-    let s = S (goal.at.over_from-over-requires c).After-first_swapped-a in
-    let fit = s.requires.swap_fit in
-    let tail = tail_fit s.args.step s.args.rain.now s.args.pond.now s.args.old s.args.own (A (goal.at.over_from-over-requires c).After-first_swapped-a) (l s) fit (most (goal.at.over_from-over-requires c).After-first_swapped-a) in
-    let good : StateOk (s.args.step / 2) s.args.pond.now c.state_before-state.result
-    = rw c.state_before-state.ensures (before_ok fit.pond s.args.outflow.now s.args.storage.now fit.rows (A (goal.at.over_from-over-requires c).After-first_swapped-a) (omega (arith, most (goal.at.over_from-over-requires c).After-first_swapped-a, fit.out_long))) in record { tail_fit = (subst (λ (z : List ℕ). TailFit s.args.step s.args.rain.now s.args.pond.now s.args.old s.args.own (A (goal.at.over_from-over-requires c).After-first_swapped-a) z) (sym (tail_part s.args.inflow.now (A (goal.at.over_from-over-requires c).After-first_swapped-a))) tail, good); all_bound = (omega (arith, s.requires.all_bound.0), omega (arith, ap total (tail_is (goal.at.over_from-over-requires c).After-first_swapped-a), c.sum_of.ensures, comes (goal.at.over_from-over-requires c).After-first_swapped-a)) }
+    let f = (goal.at.over_from-over-requires c).After-first_swapped-a in
+    let s = S f in
+    let p = s.args.pond.now.table.numbers.now in
+    let tail = tail_fit s.args.step s.args.rain.now p s.args.old s.args.own (A f) (l s) s.requires.swap_fit (most f) in
+    let lent = subst (λ (z : List ℕ). TailFit s.args.step s.args.rain.now p s.args.old s.args.own (A f) z) (sym (tail_part s.args.inflow.now (A f))) tail in
+    record { tail_fit = rw c.new-level.ensures.pond lent; all_bound = (omega (arith, s.requires.all_bound.0), omega (arith, ap total (tail_is f), c.sum_of.ensures, comes f)) }
 
 pub overflow_add-result : goal.overflow_add-result
-overflow_add-result c = omega (arith, placed (goal.at.overflow_add-result c).After-over_from-over)
+overflow_add-result c = omega (arith, placed (goal.at.overflow_add-result c).After-over_from-over c.in-Some.is, few (S (F (goal.at.overflow_add-result c).After-over_from-over)))
 
-pub returns-then-over-ne0 : goal.returns-then-over-ne0
-returns-then-over-ne0 c =
-    let s = S (F (goal.at.returns-then-over-ne0 c).After-over_from-over) in
-    let r = over_stops (s.args.step / 2) s.args.pond.now (l s) (ws s) s.args.classes (λ q. c.if-over-ne0.true (over_is (goal.at.returns-then-over-ne0 c).After-over_from-over ∙ q)) in record { value = ap (λ (z : ℕ). Refused (refuse 14 (z + c.over_from-over.result))) (F (goal.at.returns-then-over-ne0 c).After-over_from-over).first_swapped-a.ensures ∙ ap (λ (z : ℕ). Refused (refuse 14 (Changed (goal.at.returns-then-over-ne0 c).After-over_from-over + z))) (over_is (goal.at.returns-then-over-ne0 c).After-over_from-over) ∙ r.0; storage_value = r.1 }
+-- 14
+fourteen : (g : After-over_from-over) → first_of Over (later (A (F g)) g.over_from-over.result) ≡ over_from ((S (F g)).args.step / 2) (S (F g)).args.pond.now.table.numbers.now (l (S (F g))) (ws (S (F g)))
+unfolding over_from
+fourteen g =
+    ap (λ (z : ℕ). first_of Over (later z g.over_from-over.result)) (F g).first_swapped-a.ensures
+    ∙ ap (λ (o : Option ℕ). first_of Over (later (Changed g) o)) (over_is g)
+
+-- what is found is what it says
+decides : (g : After-over_from-over) {o : Option ℕ} → g.over_from-over.result ≡ o → first_of Over (later (A (F g)) o) ≡ over_from ((S (F g)).args.step / 2) (S (F g)).args.pond.now.table.numbers.now (l (S (F g))) (ws (S (F g)))
+decides g q = ap (λ (o : Option ℕ). first_of Over (later (A (F g)) o)) (sym q) ∙ fourteen g
+
+pub returns-in-Some : goal.returns-in-Some
+unfolding settled_from
+returns-in-Some c =
+    let g = (goal.at.returns-in-Some c).After-over_from-over in
+    let s = S (F g) in
+    let h = s.args.step / 2 in
+    let p = s.args.pond.now.table.numbers.now in
+    let stop = decides g c.in-Some.is in
+    record { value = refused_answer stop (edited_of h s.args.classes p (l s) (rerouted h p (l s) (ws s))); storage_value = refused_old stop (rerouted h p (l s) (ws s)) (l s) }
 
 pub finish-requires : goal.finish-requires
-finish-requires c = record { swap_fit = (S (F (goal.at.finish-requires c).After-over_from-over)).requires.swap_fit; a_value = (F (goal.at.finish-requires c).After-over_from-over).first_swapped-a.ensures; inflow_value = sym (told (goal.at.finish-requires c).After-over_from-over) ∙ c.if-over-ne0.false }
+finish-requires c =
+    let g = (goal.at.finish-requires c).After-over_from-over in
+    record { swap_fit = (S (F g)).requires.swap_fit; half = (S (F g)).requires.half; a_value = (F g).first_swapped-a.ensures; inflow_value = sym (told g) ∙ c.in_default.is }
 
 pub returns : goal.returns
+unfolding settled_from
 returns c =
-    let s = S (F (goal.at.returns c).After-over_from-over) in
-    let r = over_passes (s.args.step / 2) s.args.pond.now (l s) (ws s) s.args.classes (sym (over_is (goal.at.returns c).After-over_from-over) ∙ c.if-over-ne0.false) in
-    record { value = ap Done c.finish.ensures.value ∙ r.0; storage_value = c.finish.ensures.storage_value ∙ r.1 }
+    let g = (goal.at.returns c).After-over_from-over in
+    let s = S (F g) in
+    let h = s.args.step / 2 in
+    let p = s.args.pond.now.table.numbers.now in
+    let pass = decides g c.in_default.is in
+    record { value = ap (λ z. Ok z) c.finish.ensures.value ∙ passed_answer pass (edited_of h s.args.classes p (l s) (rerouted h p (l s) (ws s))); storage_value = c.finish.ensures.storage_value ∙ passed_new pass (rerouted h p (l s) (ws s)) (l s) }

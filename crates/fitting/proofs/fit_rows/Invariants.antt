@@ -1,11 +1,13 @@
 -- `fitting::fit_rows` meets its contract. Assumes nothing.
-use Prim.Native.Nat.{◌+◌, ◌-◌}
+use Rattle.std.proofs.Common.{◌≡◌, ◌+◌}
+use lib.ListN.{drop}
+use Rattle.std.specs.Slice.Iter.{chunks_rest, chunks_size}
+use Rattle.sums.specs.Needs.{block_rows}
 use Rattle.parts.specs.Needs.{part_by}
 use Rattle.fitting.proofs.Fits.{Fitting}
 use Rattle.fitting.proofs.fit_rows.Given as goal
 
-abbrev pub invariant-loop-at : goal.invariant-loop-at
-invariant-loop-at l = Fitting (λ i. part_by l.step l.rain l.old (i + 1)) l.inflow l.left l.at
-
-abbrev pub decreases-loop-at : goal.decreases-loop-at
-decreases-loop-at l = l.m - l.at
+abbrev pub invariant-loop-block : goal.invariant-loop-block
+invariant-loop-block l =
+    (chunks_size l.block-iterator ≡ block_rows)
+    × ((chunks_rest l.block-iterator ≡ drop l.at l.inflow) × Fitting (λ i. part_by l.step l.rain l.old (i + 1)) l.inflow l.left l.at)

@@ -3,5 +3,5 @@ use mathlib.Core.Path.{sym, ◌∙◌}
 use Rattle.curve.proofs.Limits.{patches_ok}
 use Rattle.guarded.proofs.composite.Goals as goal
 
-pub composite-ground-requires : goal.composite-ground-requires
-composite-ground-requires c = patches_ok _ (sym c.patches_good.ensures ∙ c.if-patches_good.true)
+pub composite-requires : goal.composite-requires
+composite-requires c = patches_ok _ (sym c.patches_good.ensures ∙ c.if-patches_good.true)

@@ -30,10 +30,6 @@ met c =
       | else-rest-pen w ↦ rw (w.weight-is, w.rest-is) (no_carry Tp D pen (c.requires.1.0.on c.if-t-pen.false) c.if-t-pen.false w.if-rest-pen.false)
     ]
 
-pub pen_at-requires : goal.pen_at-requires
-pen_at-requires c =
-    (c.requires.0, (c.requires.1.1, c.requires.1.0.past))
-
 pub overflow_add-weight : goal.overflow_add-weight
 overflow_add-weight c =
     omega (arith, small (goal.at.overflow_add-weight c).Start c.if-t-pen.false)

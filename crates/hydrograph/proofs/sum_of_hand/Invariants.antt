@@ -1,13 +1,9 @@
 -- `hydrograph::sum_of_hand` meets its contract. Assumes nothing.
 use mathlib.Core.Path.{◌≡◌}
-use Prim.Native.Nat.{ℕ, ◌-◌, ◌≤◌}
+use Prim.Native.Nat.{ℕ}
 use lib.ListN.{get_or}
 use Rattle.laws.specs.Sum.{sum_to}
-use Rattle.hydrograph.specs.Needs.{hand}
 use Rattle.hydrograph.proofs.sum_of_hand.Given as goal
 
 abbrev pub invariant-loop-i : goal.invariant-loop-i
-invariant-loop-i l = (l.i ≤ hand) × (l.sum ≡ sum_to (λ (g : ℕ). get_or l.list g 0) l.i)
-
-abbrev pub decreases-loop-i : goal.decreases-loop-i
-decreases-loop-i l = hand - l.i
+invariant-loop-i l = l.sum ≡ sum_to (λ (g : ℕ). get_or l.list g 0) l.i

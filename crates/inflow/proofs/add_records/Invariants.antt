@@ -1,11 +1,7 @@
 -- `inflow::add_records` meets its contract. Assumes nothing.
-use Prim.Native.Nat.{◌-◌}
 use lib.ListN.{length}
 use Rattle.inflow.proofs.Inflows.{PartsIn}
 use Rattle.inflow.proofs.add_records.Given as goal
 
-abbrev pub invariant-loop-i : goal.invariant-loop-i
-invariant-loop-i l = PartsIn l.setup l.rain l.subareas 1 (length l.initial.rows) l.rows l.i
-
-abbrev pub decreases-loop-i : goal.decreases-loop-i
-decreases-loop-i l = l.n - l.i
+abbrev pub invariant-loop-own : goal.invariant-loop-own
+invariant-loop-own l = PartsIn l.setup l.rain l.subareas 1 (length l.initial.rows) l.rows l.own-index

@@ -1,36 +1,26 @@
 -- `inflow::run` meets its contract. Assumes nothing.
-use mathlib.Core.Path.{sym, ap, ◌∙◌}
-use Prim.Native.Nat.{ℕ}
-use Rattle.refusals.specs.declared.Refusal.{Refusal}
-use Rattle.checks.specs.Site.{Site, Rows, basin_now, rows_now}
-use Rattle.inflow.specs.Inflow.{inflow_refusal}
-use Rattle.refusals.proofs.Orders.{none_new, some_old}
+use Rattle.std.proofs.Common.{rules}
+use mathlib.Core.Path.{◌∙◌}
+use Rattle.checks.specs.Site.{basin, found}
 use Rattle.checks.proofs.Ready.{inflow_ready}
+use Rattle.refusals.proofs.Orders.{refused_old, passed_new}
+use Rattle.inflow.specs.Inflow.{inflow_refusal}
 use Rattle.inflow.proofs.run.Goals as goal
-use Rattle.inflow.proofs.run.Goals.{Start}
 
-abbrev x : Start → Site
-x s = basin_now s.args.setup s.args.rain.now s.args.subareas.now
-
-abbrev l : Start → Rows
-l s = rows_now s.args.rows.now s.args.outflow.now s.args.storage.now
-
-abbrev number : Refusal → ℕ
-number v = v.number
+pub returns-in_err-inflow_checks-clause-rows_after : goal.returns-in_err-inflow_checks-clause-rows_after
+unfolding inflow_refusal
+returns-in_err-inflow_checks-clause-rows_after c = search (rules, refused_old)
 
 pub fill-requires : goal.fill-requires
 fill-requires c =
-    let r = inflow_ready (x (goal.at.fill-requires c).Start) (l (goal.at.fill-requires c).Start) (sym (ap number c.inflow_checks-v.ensures) ∙ c.if-v-eq0.true) in
-    (r.list, (r.run.raining, r.run.lengths.most))
+    let x = basin c.args.setup c.args.rain.now c.args.subareas.now in
+    let l = found c.args.rows.now c.args.outflow.now c.args.storage.now in
+    let left = inflow_ready x l (search rules) in
+    (left.list, (left.run.raining, left.run.lengths.most))
 
-pub returns-then-v-eq0 : goal.returns-then-v-eq0
+pub returns-clause-rows_after : goal.returns-clause-rows_after
 unfolding inflow_refusal
-returns-then-v-eq0 c =
-    let e = c.inflow_checks-v.ensures in
-    record { value = e; rows_after = c.fill.ensures ∙ none_new (inflow_refusal (x (goal.at.returns-then-v-eq0 c).Start) (l (goal.at.returns-then-v-eq0 c).Start)) (sym (ap number e) ∙ c.if-v-eq0.true) _ _ }
-
-pub returns-else-v-eq0 : goal.returns-else-v-eq0
-unfolding inflow_refusal
-returns-else-v-eq0 c =
-    let e = c.inflow_checks-v.ensures in
-    record { value = e; rows_after = some_old (inflow_refusal (x (goal.at.returns-else-v-eq0 c).Start) (l (goal.at.returns-else-v-eq0 c).Start)) (λ q. c.if-v-eq0.false (ap number e ∙ q)) _ _ }
+returns-clause-rows_after c =
+    let x = basin c.args.setup c.args.rain.now c.args.subareas.now in
+    let l = found c.args.rows.now c.args.outflow.now c.args.storage.now in
+    c.fill.ensures ∙ passed_new {v = inflow_refusal x l} (search rules) _ _

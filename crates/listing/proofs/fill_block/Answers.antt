@@ -1,13 +1,14 @@
 -- `listing::fill_block` meets its contract. Assumes nothing.
 use mathlib.Core.Path.{◌≡◌, sym, ap, ◌∙◌}
-use Prim.Native.Nat.{ℕ, ◌+◌, ◌≤◌}
+use Prim.Native.Nat.{ℕ, ◌+◌}
 use native.Mathlib.Omega.{arith}
 use lib.ListN.{length}
 use Rattle.laws.specs.Listed.{rows_from}
 use Rattle.laws.proofs.Listed.{rows_length}
+use Rattle.subarea.proofs.Subareas.{listed_length, listed_at}
 use Rattle.inflow.specs.Inflow.{inflow_at}
 use Rattle.inflow.proofs.Inflows.{parts_start, parts_room, parts_long, parts_end}
-use Rattle.listing.proofs.Listing.{all_patched, listed_ok, listed_turn}
+use Rattle.listing.proofs.Listing.{listed_ok, listed_turn}
 use Rattle.listing.proofs.fill_block.Goals as goal
 use Rattle.listing.proofs.fill_block.Goals.{After-clear, At-loop-i, In-loop-i, Start}
 
@@ -22,17 +23,17 @@ clean a = (goal.at.At-loop-i a).After-clear
 abbrev start : At-loop-i → Start
 start a = (goal.at.At-loop-i a).Start
 
--- a subarea's place does not wrap
-few : (c : In-loop-i) → c.loop-i.i ≤ 16
-few c = omega (arith, c.loop-i-test.true, (start (goal.at.In-loop-i c).At-loop-i).requires.list_ok.0.records.most)
-
 pub loop-i-init : goal.loop-i-init
 loop-i-init c =
     parts_start c.args.setup c.args.rain.now c.args.subareas.now (c.args.from + 1) (length c.clear.new.rows)
     (c.clear.ensures ∙ ap (rows_from (λ (k : ℕ). 0) 1) (sym (cleared (goal.at.loop-i-init c).After-clear)))
 
-pub listed_numbers-own-requires : goal.listed_numbers-own-requires
-listed_numbers-own-requires c = let s = start (goal.at.listed_numbers-own-requires c).At-loop-i in (s.requires.list_ok.0.records, (all_patched s.args.setup s.args.subareas.now s.requires.list_ok.0, omega (arith, c.loop-i-test.true)))
+pub listed_numbers-numbers-requires : goal.listed_numbers-numbers-requires
+listed_numbers-numbers-requires c =
+    let ok = (start (goal.at.listed_numbers-numbers-requires c).At-loop-i).requires.list_ok.0 in
+    let a = listed_at c.records-own-items.ensures c.loop-i-test.true in
+    let each = ok.each c.loop-i.i a.inside in
+    rw a.own (each.whole, (each.patched, omega (arith, a.inside, ok.records.most)))
 
 pub add_block-requires : goal.add_block-requires
 add_block-requires c =
@@ -44,19 +45,13 @@ add_block-requires c =
     let e = cleared (clean (goal.at.add_block-requires c).At-loop-i) in
     let long = parts_long g rain l (s.args.from + 1) m c.loop-i.invariant in
     let room = parts_room g rain l (s.args.from + 1) m c.loop-i.invariant s.requires.list_ok.1.0 s.requires.list_ok.0 (omega (arith, e, s.requires.in_bounds.1.1)) in
-    let numbers = listed_ok g l s.requires.list_ok.1.1 (omega (arith, c.loop-i-test.true)) c.listed_numbers-own.ensures s.requires.list_ok.0 in
+    let numbers = listed_ok g l s.requires.list_ok.1.1 c.records-own-items.ensures c.loop-i-test.true c.listed_numbers-numbers.ensures s.requires.list_ok.0 in
     (numbers, (s.requires.list_ok.1.0, (room, (omega (arith, e, long, s.requires.in_bounds.0), (omega (arith, e, long, s.requires.in_bounds.1.0), omega (arith, e, long, s.requires.in_bounds.1.1))))))
-
-pub overflow_add-i : goal.overflow_add-i
-overflow_add-i c = omega (arith, few (goal.at.overflow_add-i c).In-loop-i)
-
-pub loop-i-smaller : goal.loop-i-smaller
-loop-i-smaller c = omega (arith, c.loop-i-test.true)
 
 pub loop-i-preserved : goal.loop-i-preserved
 loop-i-preserved c =
     let s = start (goal.at.loop-i-preserved c).At-loop-i in
-    listed_turn s.args.setup s.args.subareas.now s.requires.list_ok.1.1 (omega (arith, c.loop-i-test.true)) c.listed_numbers-own.ensures s.args.rain.now (s.args.from + 1) (length (clean (goal.at.loop-i-preserved c).At-loop-i).clear.new.rows) c.loop-i.invariant c.add_block.ensures
+    listed_turn s.args.setup s.args.subareas.now s.requires.list_ok.1.1 c.records-own-items.ensures c.loop-i-test.true c.listed_numbers-numbers.ensures s.args.rain.now (s.args.from + 1) (length (clean (goal.at.loop-i-preserved c).At-loop-i).clear.new.rows) c.loop-i.invariant c.add_block.ensures
 
 pub shape_of-rows : goal.shape_of-rows
 shape_of-rows c =
@@ -69,4 +64,4 @@ returns c =
     let g = s.args.setup in
     let rain = s.args.rain.now in
     let l = s.args.subareas.now in
-    parts_end g rain l (s.args.from + 1) (length (clean (goal.at.returns c).At-loop-i).clear.new.rows) c.loop-i.invariant (omega arith) ∙ ap (rows_from (inflow_at g rain l) (s.args.from + 1)) (cleared (clean (goal.at.returns c).At-loop-i))
+    parts_end g rain l (s.args.from + 1) (length (clean (goal.at.returns c).At-loop-i).clear.new.rows) c.loop-i.invariant (omega (arith, ap length c.records-own-items.ensures, listed_length l)) ∙ ap (rows_from (inflow_at g rain l) (s.args.from + 1)) (cleared (clean (goal.at.returns c).At-loop-i))

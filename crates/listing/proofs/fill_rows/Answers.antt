@@ -1,13 +1,14 @@
 -- `listing::fill_rows` meets its contract. Assumes nothing.
 use mathlib.Core.Path.{◌≡◌, sym, ap, ◌∙◌}
-use Prim.Native.Nat.{ℕ, ◌≤◌}
+use Prim.Native.Nat.{ℕ}
 use native.Mathlib.Omega.{arith}
 use lib.ListN.{length}
 use Rattle.laws.specs.Listed.{rows_from}
 use Rattle.laws.proofs.Listed.{rows_length}
+use Rattle.subarea.proofs.Subareas.{listed_length, listed_at}
 use Rattle.inflow.specs.Inflow.{inflow_rows}
 use Rattle.inflow.proofs.Inflows.{parts_start, parts_room, parts_long, parts_end}
-use Rattle.listing.proofs.Listing.{all_patched, listed_ok, listed_turn}
+use Rattle.listing.proofs.Listing.{listed_ok, listed_turn}
 use Rattle.listing.proofs.fill_rows.Goals as goal
 use Rattle.listing.proofs.fill_rows.Goals.{After-clear, At-loop-i, In-loop-i, Start}
 
@@ -22,10 +23,6 @@ clean a = (goal.at.At-loop-i a).After-clear
 abbrev start : At-loop-i → Start
 start a = (goal.at.At-loop-i a).Start
 
--- a subarea's place does not wrap
-few : (c : In-loop-i) → c.loop-i.i ≤ 16
-few c = omega (arith, c.loop-i-test.true, (start (goal.at.In-loop-i c).At-loop-i).requires.list_ok.0.records.most)
-
 pub loop-i-init : goal.loop-i-init
 loop-i-init c =
     let e = sym (cleared (goal.at.loop-i-init c).After-clear) in
@@ -35,8 +32,12 @@ loop-i-init c =
       held_long = c.requires.rain_len_bound.1.1.1 ∙ e;
     }
 
-pub listed_numbers-own-requires : goal.listed_numbers-own-requires
-listed_numbers-own-requires c = let s = start (goal.at.listed_numbers-own-requires c).At-loop-i in (s.requires.list_ok.0.records, (all_patched s.args.setup s.args.subareas.now s.requires.list_ok.0, omega (arith, c.loop-i-test.true)))
+pub listed_numbers-numbers-requires : goal.listed_numbers-numbers-requires
+listed_numbers-numbers-requires c =
+    let ok = (start (goal.at.listed_numbers-numbers-requires c).At-loop-i).requires.list_ok.0 in
+    let a = listed_at c.records-own-items.ensures c.loop-i-test.true in
+    let each = ok.each c.loop-i.i a.inside in
+    rw a.own (each.whole, (each.patched, omega (arith, a.inside, ok.records.most)))
 
 pub add_all-requires : goal.add_all-requires
 add_all-requires c =
@@ -49,21 +50,15 @@ add_all-requires c =
     let so = c.loop-i.invariant in
     let long = parts_long g rain l 1 m so.rows in
     let room = parts_room g rain l 1 m so.rows s.requires.list_ok.1.0 s.requires.list_ok.0 (omega (arith, e, s.requires.rain_len_bound.1.0)) in
-    let numbers = listed_ok g l s.requires.list_ok.1.1 (omega (arith, c.loop-i-test.true)) c.listed_numbers-own.ensures s.requires.list_ok.0 in
+    let numbers = listed_ok g l s.requires.list_ok.1.1 c.records-own-items.ensures c.loop-i-test.true c.listed_numbers-numbers.ensures s.requires.list_ok.0 in
     record { numbers_ok = (numbers, (s.requires.list_ok.1.0, (room, omega (arith, e, long, s.requires.rain_len_bound.1.0)))); rain_len_bound = (s.requires.rain_len_bound.0, (so.out_long ∙ sym long, so.held_long ∙ sym long)) }
-
-pub overflow_add-i : goal.overflow_add-i
-overflow_add-i c = omega (arith, few (goal.at.overflow_add-i c).In-loop-i)
-
-pub loop-i-smaller : goal.loop-i-smaller
-loop-i-smaller c = omega (arith, c.loop-i-test.true)
 
 pub loop-i-preserved : goal.loop-i-preserved
 loop-i-preserved c =
     let s = start (goal.at.loop-i-preserved c).At-loop-i in
     let more = c.add_all.ensures in
     record {
-      rows = listed_turn s.args.setup s.args.subareas.now s.requires.list_ok.1.1 c.loop-i-test.true c.listed_numbers-own.ensures s.args.rain.now 1 (length (clean (goal.at.loop-i-preserved c).At-loop-i).clear.new.rows) c.loop-i.invariant.rows more.rows_after;
+      rows = listed_turn s.args.setup s.args.subareas.now s.requires.list_ok.1.1 c.records-own-items.ensures c.loop-i-test.true c.listed_numbers-numbers.ensures s.args.rain.now 1 (length (clean (goal.at.loop-i-preserved c).At-loop-i).clear.new.rows) c.loop-i.invariant.rows more.rows_after;
       out_long = more.q_len_unchanged.0 ∙ c.loop-i.invariant.out_long;
       held_long = more.q_len_unchanged.1 ∙ c.loop-i.invariant.held_long;
     }
@@ -85,4 +80,4 @@ returns c =
     let g = s.args.setup in
     let rain = s.args.rain.now in
     let l = s.args.subareas.now in
-    record { inflow_after = parts_end g rain l 1 (length (clean (goal.at.returns c).At-loop-i).clear.new.rows) c.loop-i.invariant.rows (omega arith) ∙ ap (inflow_rows g rain l) (cleared (clean (goal.at.returns c).At-loop-i)); outflow_len_unchanged = (shape_of-outflow c, shape_of-storage c) }
+    record { inflow_after = parts_end g rain l 1 (length (clean (goal.at.returns c).At-loop-i).clear.new.rows) c.loop-i.invariant.rows (omega (arith, ap length c.records-own-items.ensures, listed_length l)) ∙ ap (inflow_rows g rain l) (cleared (clean (goal.at.returns c).At-loop-i)); outflow_len_unchanged = (shape_of-outflow c, shape_of-storage c) }

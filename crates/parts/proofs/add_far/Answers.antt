@@ -1,5 +1,5 @@
 -- `parts::add_far` meets its contract. Assumes nothing.
-use mathlib.Core.Path.{◌≡◌, sym, ap, ◌∙◌}
+use mathlib.Core.Path.{◌≡◌, ap, ◌∙◌}
 use mathlib.Core.List.{List}
 use Prim.Native.Nat.{ℕ, ◌+◌, ◌-◌, ◌≤◌}
 use native.Mathlib.Omega.{arith}
@@ -7,7 +7,7 @@ use lib.ListN.{length, take, drop}
 use lib.Seq.{take_at, length-take-le}
 use Rattle.laws.specs.Limits.{most_rows}
 use Rattle.laws.specs.Listed.{rows_from, plus}
-use Rattle.laws.proofs.Fronts.{front_has, front_long}
+use Rattle.laws.proofs.Fronts.{front_has}
 use Rattle.laws.proofs.Listed.{rows_length}
 use Rattle.hydrograph.specs.InflowRows.{weights}
 use Rattle.hydrograph.specs.Needs.{most_depth, Below}
@@ -68,23 +68,6 @@ summed c =
 summed_long : (c : After-far_sums) → length c.far_sums.new.sums ≡ n (before_sums c)
 summed_long c = ap length (summed c) ∙ due_long (before_sums c)
 
-pub slice_bounds-fill_depths-end-2 : goal.slice_bounds-fill_depths-end-2
-slice_bounds-fill_depths-end-2 c = sym (length-take-le (end (goal.at.slice_bounds-fill_depths-end-2 c).Start) c.args.q.now c.requires.step_bound.1.0)
-
-pub fill_depths-requires : goal.fill_depths-requires
-fill_depths-requires c =
-    let depths-fit = front_long (λ (z : ℕ). (1 ≤ z) × (z ≤ most_rows)) (end (goal.at.fill_depths-requires c).Start) c.args.q.now c.requires.step_bound.1.0 (omega (arith, c.requires.step_bound.0), omega (arith, c.requires.numbers_ok.1.1.1)) in
-    (c.requires.numbers_ok.0.curved, (c.requires.numbers_ok.1.0, (omega arith, (omega (arith, c.requires.numbers_ok.1.1.1), (omega arith, depths-fit)))))
-
--- a front that is lent is as long as was asked
-pub slice_bounds-far_sums-end-2 : goal.slice_bounds-far_sums-end-2
-slice_bounds-far_sums-end-2 c =
-    let s = before_depths (goal.at.slice_bounds-far_sums-end-2 c).After-fill_depths in
-    front_has (λ (z : List ℕ). end s ≡ length z) (end s) _ _ _ (filled_long (goal.at.slice_bounds-far_sums-end-2 c).After-fill_depths) (filled (goal.at.slice_bounds-far_sums-end-2 c).After-fill_depths) (sym (asked_long s))
-
-pub slice_bounds-far_sums-end-4 : goal.slice_bounds-far_sums-end-4
-slice_bounds-far_sums-end-4 c = sym (length-take-le (n (goal.at.slice_bounds-far_sums-end-4 c).Start) c.args.sums.now c.requires.step_bound.1.1)
-
 pub far_sums-requires : goal.far_sums-requires
 far_sums-requires c =
     let s = before_depths (goal.at.far_sums-requires c).After-fill_depths in
@@ -92,11 +75,6 @@ far_sums-requires c =
     let in_List =
     front_has (λ (z : List ℕ). s.args.lead + length (take (n s) s.args.sums.now) ≤ length z + 1) (end s) c.fill_depths.new.list (drop (end s) s.args.q.now) (asked s) (filled_long (goal.at.far_sums-requires c).After-fill_depths) (filled (goal.at.far_sums-requires c).After-fill_depths) (omega (arith, sums, asked_long s)) in
     let below = depths_below s.args.step s.args.rain.now s.args.own s.requires.numbers_ok.0 s.requires.numbers_ok.1.0 s.args.from (end s) in record { numbers_ok = (s.requires.numbers_ok.0, (s.requires.step_bound.0, (omega (arith, s.requires.numbers_ok.1.1.1), (omega (arith, sums, s.requires.numbers_ok.1.1.1, s.requires.step_bound.0), in_List)))); below = front_has (λ (z : List ℕ). Below z (length z) most_depth × (length z ≤ most_rows)) (end s) _ _ _ (filled_long (goal.at.far_sums-requires c).After-fill_depths) (filled (goal.at.far_sums-requires c).After-fill_depths) (below, omega (arith, asked_long s, s.requires.numbers_ok.1.1.1)) }
-
-pub slice_bounds-add_volumes-end-2 : goal.slice_bounds-add_volumes-end-2
-slice_bounds-add_volumes-end-2 c =
-    let s = before_sums (goal.at.slice_bounds-add_volumes-end-2 c).After-far_sums in
-    front_has (λ (z : List ℕ). n s ≡ length z) (n s) _ _ _ (summed_long (goal.at.slice_bounds-add_volumes-end-2 c).After-far_sums) (summed (goal.at.slice_bounds-add_volumes-end-2 c).After-far_sums) (sym (due_long s))
 
 pub add_volumes-requires : goal.add_volumes-requires
 add_volumes-requires c =

@@ -1,22 +1,20 @@
 -- `parts::add_from` meets its contract. Assumes nothing.
-use mathlib.Core.Path.{◌≡◌, refl, sym, ap, ◌∙◌}
+use mathlib.Core.Path.{◌≡◌, refl, ap, ◌∙◌}
 use mathlib.Core.List.{List, ◌++◌}
 use Prim.Native.Nat.{ℕ, ◌+◌, ◌-◌, ◌≤◌, ◌<◌, min}
 use native.Mathlib.Omega.{arith}
 use borrow.Rule.Slice.PartMut.{mid_of, mid_len}
-use lib.ListN.{length, take, drop}
-use lib.Seq.{length-take-le}
+use lib.ListN.{length, drop}
 use Rattle.laws.specs.Limits.{most_rows}
 use Rattle.laws.specs.Listed.{plus}
-use Rattle.laws.proofs.Fronts.{front_long}
 use Rattle.hydrograph.specs.Needs.{RainOk, RoomOk}
 use Rattle.hydrograph.proofs.Weights.{weights_most}
 use Rattle.sums.specs.Needs.{NumbersOk}
 use Rattle.parts.specs.Needs.{part_by}
-use Rattle.parts.proofs.Added.{Parted, parted_front, mid_has, parted_turn, parted_end, mid_room, front_room}
+use Rattle.parts.proofs.Added.{Parted, parted_front, mid_has, parted_turn, parted_end, mid_room}
 use Rattle.parts.proofs.Through.{many, late_part}
 use Rattle.parts.proofs.add_from.Goals as goal
-use Rattle.parts.proofs.add_from.Goals.{After-add_parts-2, After-least-end, Start}
+use Rattle.parts.proofs.add_from.Goals.{After-add_parts-2, After-min-end, Start}
 
 -- how many rows are worked out by blocks
 abbrev lead : Start → ℕ
@@ -30,37 +28,31 @@ few : (s : Start) → lead s ≤ 520
 few s = omega (arith, weights_most s.args.step s.args.own.peak s.requires.numbers_ok.0.timed)
 
 -- the function's entry, once it is known where the rows' parts end
-abbrev start : After-least-end → Start
-start c = (goal.at.After-least-end c).Start
+abbrev start : After-min-end → Start
+start c = (goal.at.After-min-end c).Start
 
 -- where they end
 abbrev Ends : Start → ℕ → Type 0
 Ends s e = e ≡ min (length s.args.rows.now) (length s.args.rain.now + many s.args.step s.args.rain.now s.args.own - s.args.from)
 
-ends : (c : After-least-end) → Ends (start c) c.least-end.result
+ends : (c : After-min-end) → Ends (start c) c.min-end.result
 ends c =
     let s = start c in
-    c.least-end.ensures ∙ ap (min (length s.args.rows.now)) c.less.ensures
+    c.min-end.ensures ∙ ap (min (length s.args.rows.now)) c.saturating_sub.ensures
 
 -- no row from there on has one
 late : (s : Start) (e : ℕ) → Ends s e → (j : ℕ) → e ≤ j → j < length s.args.rows.now → part s (s.args.from + 1 + j) ≡ 0
 late s e q j lo hi =
     late_part s.args.step s.args.rain.now s.args.own s.requires.numbers_ok.0 s.requires.numbers_ok.1.0 (s.args.from + 1 + j) (omega arith)
 
--- what the first rows ask that are worked out by blocks
-near_ok : (s : Start) (e : ℕ) → e ≤ length s.args.rows.now
-    → NumbersOk s.args.step s.args.own × (RainOk s.args.rain.now × (RoomOk (take e s.args.rows.now) × (s.args.from + length (take e s.args.rows.now) ≤ most_rows)))
-near_ok s e l =
-    (s.requires.numbers_ok.0, (s.requires.numbers_ok.1.0, (front_room s.args.rows.now s.requires.numbers_ok.1.1.0 e l, front_long (λ (z : ℕ). s.args.from + z ≤ most_rows) e s.args.rows.now l (omega (arith, s.requires.numbers_ok.1.1.1)))))
-
 -- once the first rows have their parts
 led : (c : After-add_parts-2)
-    → Parted (part (start (goal.at.After-add_parts-2 c).After-least-end)) ((start (goal.at.After-add_parts-2 c).After-least-end).args.from + 1) (start (goal.at.After-add_parts-2 c).After-least-end).args.rows.now
-    (c.add_parts-2.new.rows ++ drop (lead (start (goal.at.After-add_parts-2 c).After-least-end)) (start (goal.at.After-add_parts-2 c).After-least-end).args.rows.now)
-    (lead (start (goal.at.After-add_parts-2 c).After-least-end))
+    → Parted (part (start (goal.at.After-add_parts-2 c).After-min-end)) ((start (goal.at.After-add_parts-2 c).After-min-end).args.from + 1) (start (goal.at.After-add_parts-2 c).After-min-end).args.rows.now
+    (c.add_parts-2.new.rows ++ drop (lead (start (goal.at.After-add_parts-2 c).After-min-end)) (start (goal.at.After-add_parts-2 c).After-min-end).args.rows.now)
+    (lead (start (goal.at.After-add_parts-2 c).After-min-end))
 led c =
-    let s = start (goal.at.After-add_parts-2 c).After-least-end in
-    parted_front (part s) (s.args.from + 1) s.args.rows.now (lead s) c.add_parts-2.new.rows (omega (arith, ends (goal.at.After-add_parts-2 c).After-least-end)) c.add_parts-2.ensures
+    let s = start (goal.at.After-add_parts-2 c).After-min-end in
+    parted_front (part s) (s.args.from + 1) s.args.rows.now (lead s) c.add_parts-2.new.rows (omega (arith, ends (goal.at.After-add_parts-2 c).After-min-end)) c.add_parts-2.ensures
 
 -- what the far rows ask
 abbrev FarOk : Start → List ℕ → Type 0
@@ -75,44 +67,26 @@ far_ok s e lo hi =
       (omega arith, (omega (arith, long, s.requires.rain_len_bound.1.0), omega (arith, long, s.requires.rain_len_bound.1.1))),
     )
 
-pub overflow_add-lead : goal.overflow_add-lead
-overflow_add-lead c = omega (arith, few (goal.at.overflow_add-lead c).Start)
-
-pub overflow_add-rain : goal.overflow_add-rain
-overflow_add-rain c = omega (arith, few (goal.at.overflow_add-rain c).Start, c.requires.rain_len_bound.0)
-
-pub slice_bounds-add_parts-end-then-end-lead : goal.slice_bounds-add_parts-end-then-end-lead
-slice_bounds-add_parts-end-then-end-lead c = sym (length-take-le c.least-end.result (start (goal.at.slice_bounds-add_parts-end-then-end-lead c).After-least-end).args.rows.now (omega (arith, ends (goal.at.slice_bounds-add_parts-end-then-end-lead c).After-least-end)))
-
-pub add_parts-requires : goal.add_parts-requires
-add_parts-requires c = near_ok (start (goal.at.add_parts-requires c).After-least-end) c.least-end.result (omega (arith, ends (goal.at.add_parts-requires c).After-least-end))
-
 -- few rows: all by blocks
 pub returns-then-end-lead : goal.returns-then-end-lead
 returns-then-end-lead c =
-    let s = start (goal.at.returns-then-end-lead c).After-least-end in
-    let e = c.least-end.result in
-    let so = parted_front (part s) (s.args.from + 1) s.args.rows.now e c.add_parts.new.rows (omega (arith, ends (goal.at.returns-then-end-lead c).After-least-end)) c.add_parts.ensures in
-    record { rows_after = parted_end (part s) (s.args.from + 1) s.args.rows.now so (late s e (ends (goal.at.returns-then-end-lead c).After-least-end)); q_len_unchanged = (refl, refl) }
-
-pub slice_bounds-add_parts-end-3 : goal.slice_bounds-add_parts-end-3
-slice_bounds-add_parts-end-3 c = let s = start (goal.at.slice_bounds-add_parts-end-3 c).After-least-end in sym (length-take-le (lead s) s.args.rows.now (omega (arith, ends (goal.at.slice_bounds-add_parts-end-3 c).After-least-end)))
-
-pub add_parts-requires-2 : goal.add_parts-requires-2
-add_parts-requires-2 c = let s = start (goal.at.add_parts-requires-2 c).After-least-end in near_ok s (lead s) (omega (arith, ends (goal.at.add_parts-requires-2 c).After-least-end))
+    let s = start (goal.at.returns-then-end-lead c).After-min-end in
+    let e = c.min-end.result in
+    let so = parted_front (part s) (s.args.from + 1) s.args.rows.now e c.add_parts.new.rows (omega (arith, ends (goal.at.returns-then-end-lead c).After-min-end)) c.add_parts.ensures in
+    record { rows_after = parted_end (part s) (s.args.from + 1) s.args.rows.now so (late s e (ends (goal.at.returns-then-end-lead c).After-min-end)); q_len_unchanged = (refl, refl) }
 
 pub add_far-requires : goal.add_far-requires
 add_far-requires c =
-    let s = start (goal.at.add_far-requires c).After-least-end in
-    let far = mid_has _ _ _ (led (goal.at.add_far-requires c).After-add_parts-2) (λ (z : List ℕ). FarOk s z) c.least-end.result (far_ok s c.least-end.result (omega (arith, c.if-end-lead.false)) (omega (arith, ends (goal.at.add_far-requires c).After-least-end))) in
+    let s = start (goal.at.add_far-requires c).After-min-end in
+    let far = mid_has _ _ _ (led (goal.at.add_far-requires c).After-add_parts-2) (λ (z : List ℕ). FarOk s z) c.min-end.result (far_ok s c.min-end.result (omega (arith, c.if-end-lead.false)) (omega (arith, ends (goal.at.add_far-requires c).After-min-end))) in
     record { numbers_ok = far.0; step_bound = far.1 }
 
 pub returns : goal.returns
 returns c =
-    let s = start (goal.at.returns c).After-least-end in
-    let e = c.least-end.result in
+    let s = start (goal.at.returns c).After-min-end in
+    let e = c.min-end.result in
     let rows = c.add_parts-2.new.rows ++ drop (lead s) s.args.rows.now in
     let row : s.args.from + lead s + 1 ≡ s.args.from + 1 + lead s = omega arith in
     let added = c.add_far.ensures ∙ ap (λ (k : ℕ). plus (part s) k (mid_of (lead s) (e - lead s) rows)) row in
-    let all = parted_turn (part s) (s.args.from + 1) s.args.rows.now (led (goal.at.returns c).After-add_parts-2) e c.add_far.new.rows (omega (arith, c.if-end-lead.false)) (omega (arith, ends (goal.at.returns c).After-least-end)) added in
-    record { rows_after = parted_end (part s) (s.args.from + 1) s.args.rows.now all (late s e (ends (goal.at.returns c).After-least-end)); q_len_unchanged = (c.add_far.auto.q, c.add_far.auto.sums) }
+    let all = parted_turn (part s) (s.args.from + 1) s.args.rows.now (led (goal.at.returns c).After-add_parts-2) e c.add_far.new.rows (omega (arith, c.if-end-lead.false)) (omega (arith, ends (goal.at.returns c).After-min-end)) added in
+    record { rows_after = parted_end (part s) (s.args.from + 1) s.args.rows.now all (late s e (ends (goal.at.returns c).After-min-end)); q_len_unchanged = (c.add_far.auto.q, c.add_far.auto.sums) }

@@ -8,7 +8,7 @@ use lib.ListN.{length}
 use Rattle.laws.specs.Listed.{plus}
 use Rattle.hydrograph.specs.Needs.{RoomOk}
 use Rattle.parts.specs.Needs.{part_by}
-use Rattle.parts.proofs.Added.{parted_start, parted_length, mid_has, parted_turn, parted_end, mid_room}
+use Rattle.parts.proofs.Added.{parted_start, parted_length, mid_has, parted_turn, mid_room}
 use Rattle.parts.proofs.add_parts.Goals as goal
 use Rattle.parts.proofs.add_parts.Goals.{At-loop-at, Start}
 
@@ -23,53 +23,26 @@ long a = parted_length _ _ _ a.loop-at.invariant
 pub loop-at-init : goal.loop-at-init
 loop-at-init c = parted_start _ _ _
 
-pub overflow_add-at : goal.overflow_add-at
-overflow_add-at c = omega (arith, (start (goal.at.overflow_add-at c).At-loop-at).requires.1.1.0.most)
-
-pub overflow_add-from : goal.overflow_add-from
-overflow_add-from c = omega (arith, (start (goal.at.overflow_add-from c).At-loop-at).requires.1.1.1)
-
-pub offset_bounds-rows-at : goal.offset_bounds-rows-at
-offset_bounds-rows-at c = omega (arith, (start (goal.at.offset_bounds-rows-at c).At-loop-at).requires.1.1.0.most)
-
-pub slice_bounds-add_block-count : goal.slice_bounds-add_block-count
-slice_bounds-add_block-count c = omega (arith, c.least-e.ensures)
-
-pub slice_bounds-add_block-start : goal.slice_bounds-add_block-start
-slice_bounds-add_block-start c = omega (arith, c.least-e.ensures)
-
-pub slice_bounds-add_block-end : goal.slice_bounds-add_block-end
-slice_bounds-add_block-end c = omega (arith, c.least-e.ensures, long (goal.at.slice_bounds-add_block-end c).At-loop-at)
-
 pub add_block-requires : goal.add_block-requires
 add_block-requires c =
     let s = start (goal.at.add_block-requires c).At-loop-at in
-    let e = c.least-e.result in
-    let due : length (mid_of c.loop-at.at (e - c.loop-at.at) c.loop-at.rows) ≡ e - c.loop-at.at = mid_len c.loop-at.at e c.loop-at.rows (omega (arith, long (goal.at.add_block-requires c).At-loop-at, c.least-e.ensures)) in
-    let room : RoomOk (mid_of c.loop-at.at (e - c.loop-at.at) s.args.rows.now) = mid_room s.args.rows.now s.requires.1.1.0 c.loop-at.at e (omega (arith, c.least-e.ensures)) in (
+    let e = c.min-e.result in
+    let due : length (mid_of c.loop-at.at (e - c.loop-at.at) c.loop-at.rows) ≡ e - c.loop-at.at = mid_len c.loop-at.at e c.loop-at.rows (omega (arith, long (goal.at.add_block-requires c).At-loop-at, c.min-e.ensures)) in
+    let room : RoomOk (mid_of c.loop-at.at (e - c.loop-at.at) s.args.rows.now) = mid_room s.args.rows.now s.requires.1.1.0 c.loop-at.at e (omega (arith, c.min-e.ensures)) in (
       s.requires.0,
       (
         s.requires.1.0,
         (
           mid_has _ _ _ c.loop-at.invariant (λ (l : List ℕ). RoomOk l) e room,
-          (omega (arith, due, c.least-e.ensures), (omega (arith, due, c.least-e.ensures), omega (arith, due, c.least-e.ensures, s.requires.1.1.1))),
+          (omega (arith, due, c.min-e.ensures), (omega (arith, due, c.min-e.ensures), omega (arith, due, c.min-e.ensures, s.requires.1.1.1))),
         ),
       ),
     )
 
-pub loop-at-smaller : goal.loop-at-smaller
-loop-at-smaller c = omega (arith, c.least-e.ensures)
-
 pub loop-at-preserved : goal.loop-at-preserved
 loop-at-preserved c =
     let s = start (goal.at.loop-at-preserved c).At-loop-at in
-    let e = c.least-e.result in
+    let e = c.min-e.result in
     let row : s.args.from + c.loop-at.at + 1 ≡ s.args.from + 1 + c.loop-at.at = omega arith in
-    parted_turn _ _ _ c.loop-at.invariant e c.add_block.new.rows (omega (arith, c.least-e.ensures)) (omega (arith, c.least-e.ensures))
+    parted_turn _ _ _ c.loop-at.invariant e c.add_block.new.rows (omega (arith, c.min-e.ensures)) (omega (arith, c.min-e.ensures))
     (c.add_block.ensures ∙ ap (λ (k : ℕ). plus (part_by s.args.step s.args.rain.now s.args.own) k (mid_of c.loop-at.at (e - c.loop-at.at) c.loop-at.rows)) row)
-
-pub shape_of-rows : goal.shape_of-rows
-shape_of-rows c = long (goal.at.shape_of-rows c).At-loop-at
-
-pub returns : goal.returns
-returns c = parted_end _ _ _ c.loop-at.invariant (λ j lo hi. absurd (omega arith))

@@ -1,11 +1,7 @@
 -- `parts::dry_rows` meets its contract. Assumes nothing.
 use mathlib.Core.Path.{◌≡◌}
-use Prim.Native.Nat.{◌-◌, ◌≤◌}
 use Rattle.hydrograph.specs.InflowRows.{runoff_at}
 use Rattle.parts.proofs.dry_rows.Given as goal
 
 abbrev pub invariant-loop-t : goal.invariant-loop-t
-invariant-loop-t l = (l.t ≤ l.m) × (runoff_at l.tenths l.rain l.t ≡ 0)
-
-abbrev pub decreases-loop-t : goal.decreases-loop-t
-decreases-loop-t l = l.m - l.t
+invariant-loop-t l = runoff_at l.tenths l.rain l.t ≡ 0

@@ -5,17 +5,17 @@ use Rattle.rows.proofs.figures_of.Goals as goal
 
 pub tally_of-tally-requires : goal.tally_of-tally-requires
 tally_of-tally-requires c =
-    let rows = c.requires.1.0 in
+    let rows = c.requires.0 in
     record {
-      sums_ok = (sums_ok c.requires.0 (rows_before rows _ (omega arith)), (c.requires.1.1.0, rows.few));
-      a_in_bounds = (omega (arith, c.requires.1.1.1.0), (omega arith, omega (arith, rows.long)));
+      sums_ok = (sums_ok c.args.pond.now.sound (rows_before rows _ (omega arith)), (c.requires.1.0, rows.few));
+      a_in_bounds = (omega (arith, c.requires.1.1.0), (omega arith, omega (arith, rows.long)));
     }
 
-pub kept_of-requires : goal.kept_of-requires
-kept_of-requires c =
-    (c.requires.0, tally_most c.args.inflow.now c.tally_of-tally.result (rows_before c.requires.1.0 _ (omega arith)) c.tally_of-tally.ensures)
+pub kept-requires : goal.kept-requires
+kept-requires c =
+    tally_most c.args.inflow.now c.tally_of-tally.result (rows_before c.requires.0 _ (omega arith)) c.tally_of-tally.ensures
 
 pub returns : goal.returns
 returns c =
     let g = c.tally_of-tally in
-    rw c.kept_of.ensures (figures_told c.requires.0 c.args.inflow.now c.args.outflow.now c.args.storage.now c.requires.1.0 c.requires.1.1.1.0 g.result g.ensures)
+    rw c.kept.ensures (figures_told c.args.pond.now.sound c.args.inflow.now c.args.outflow.now c.args.storage.now c.requires.0 c.requires.1.1.0 g.result g.ensures)

@@ -1,20 +1,15 @@
 -- `rows::sum_of` meets its contract. Assumes nothing.
-use native.Mathlib.Omega.{arith}
-use Rattle.rows.proofs.Totals.{sum_start, sum_turn, sum_room, sum_end}
+use Rattle.std.proofs.Common.{rules, ◌≡◌, ◌<◌, ◌^◌, ◌∙◌}
+use Rattle.std.specs.Prelude.{sum}
+use Rattle.rows.proofs.Totals.{sum_total, sum_fits}
 use Rattle.rows.proofs.sum_of.Goals as goal
 
-pub loop-i-init : goal.loop-i-init
-loop-i-init c = sum_start _
-
-pub overflow_add-sum : goal.overflow_add-sum
-overflow_add-sum c =
-    let l = c.loop-i in
-    omega (arith, sum_room c.args.list.now l.sum l.i l.invariant c.requires.0 c.requires.1 (omega arith))
-
-pub loop-i-preserved : goal.loop-i-preserved
-loop-i-preserved c =
-    let l = c.loop-i in
-    sum_turn c.args.list.now l.sum l.i l.invariant (omega arith)
+pub sum-requires-clause-fits : goal.sum-requires-clause-fits
+sum-requires-clause-fits c =
+    let fits : sum c.args.list.now < 2 ^ 64 = sum_fits c.args.list.now c.requires.0 c.requires.1 in
+    search rules
 
 pub returns : goal.returns
-returns c = sum_end _ c.loop-i.sum c.loop-i.i c.loop-i.invariant (omega arith)
+returns c =
+    let is : c.sum.result ≡ sum c.args.list.now = search rules in
+    is ∙ sum_total c.args.list.now

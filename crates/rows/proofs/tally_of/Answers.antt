@@ -5,14 +5,8 @@ use Rattle.rows.proofs.tally_of.Goals as goal
 
 pub loop-i-init : goal.loop-i-init
 loop-i-init c =
-    rw c.no_rows-tally.ensures
+    rw c.none-tally.ensures
     (tally_start c.args.half c.args.inflow.now c.args.outflow.now c.args.storage.now c.args.a c.requires.sums_ok.0 c.requires.sums_ok.1.0 c.requires.sums_ok.1.1 c.requires.a_in_bounds.0)
-
-pub bounds-outflow-i : goal.bounds-outflow-i
-bounds-outflow-i c = omega (arith, c.requires.a_in_bounds.1.0)
-
-pub bounds-storage-i : goal.bounds-storage-i
-bounds-storage-i c = omega (arith, c.requires.a_in_bounds.1.1)
 
 pub overflow_mul-x : goal.overflow_mul-x
 overflow_mul-x c =
@@ -22,27 +16,18 @@ pub overflow_add-x : goal.overflow_add-x
 overflow_add-x c =
     omega (arith, c.requires.sums_ok.0.each c.loop-i.i (omega arith))
 
-pub bounds-inflow-i : goal.bounds-inflow-i
-bounds-inflow-i c = omega (arith, c.requires.a_in_bounds.0)
-
-pub overflow_add-i : goal.overflow_add-i
-overflow_add-i c = omega (arith, c.requires.sums_ok.1.1)
-
-pub with_row-tally-requires : goal.with_row-tally-requires
-with_row-tally-requires c =
+pub turn-tally-requires : goal.turn-tally-requires
+turn-tally-requires c =
     let s = c in
     let l = c.loop-i in
     tally_fits s.args.half s.args.inflow.now s.args.outflow.now s.args.storage.now s.args.a s.requires.sums_ok.0 s.requires.sums_ok.1.0 s.requires.sums_ok.1.1 s.requires.a_in_bounds.0
     l.before l.tally l.i l.invariant (omega arith)
 
-pub overflow_add-i-in-loop-i : goal.overflow_add-i-in-loop-i
-overflow_add-i-in-loop-i c = omega (arith, c.requires.sums_ok.1.1)
-
 pub loop-i-preserved : goal.loop-i-preserved
 loop-i-preserved c =
     let s = c in
     let l = c.loop-i in
-    rw c.with_row-tally.ensures
+    rw c.turn-tally.ensures
     (tally_turn s.args.half s.args.inflow.now s.args.outflow.now s.args.storage.now s.args.a s.requires.sums_ok.0 s.requires.sums_ok.1.0 s.requires.sums_ok.1.1 s.requires.a_in_bounds.0
     l.before l.tally l.i l.invariant (omega arith))
 

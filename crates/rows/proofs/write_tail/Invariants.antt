@@ -1,11 +1,6 @@
 -- `rows::write_tail` meets its contract: each row is tallied as it is routed. Assumes nothing.
-use Prim.Native.Nat.{◌-◌}
-use lib.ListN.{length}
 use Rattle.rows.proofs.Writes.{Writing}
 use Rattle.rows.proofs.write_tail.Given as goal
 
 abbrev pub invariant-loop-i : goal.invariant-loop-i
-invariant-loop-i l = Writing l.half l.pond l.initial.tally l.a l.initial.last l.inflow l.outflow l.storage l.last l.tally l.i
-
-abbrev pub decreases-loop-i : goal.decreases-loop-i
-decreases-loop-i l = length l.inflow - l.i
+invariant-loop-i l = Writing l.level.pond.half l.level.pond.table.numbers.now l.initial.tally l.a l.initial.last l.inflow l.outflow l.storage l.last l.tally l.i

@@ -1,13 +1,11 @@
 -- `sums::lay_hand` meets its contract. Assumes nothing.
-use mathlib.Core.Path.{◌≡◌, refl, sym, ◌∙◌}
+use mathlib.Core.Path.{◌≡◌, ◌∙◌}
 use mathlib.Core.List.{List, ◌++◌}
 use Prim.Native.Nat.{ℕ, ◌+◌, ◌-◌, ◌<◌}
 use native.Mathlib.Omega.{arith}
 use lib.ListN.{length, get_or, drop}
-use lib.Seq.{length-take-le}
 use Rattle.hydrograph.specs.InflowRows.{runoff_at}
 use Rattle.hydrograph.specs.Needs.{hand}
-use Rattle.hydrograph.proofs.Weights.{weights_most}
 use Rattle.hydrograph.proofs.Lines.{line_next}
 use Rattle.sums.proofs.Window.{window_full, full_long, full_below, window_moved, laid_more, sums_below}
 use Rattle.hydrograph.proofs.Hands.{hand_below}
@@ -31,27 +29,6 @@ each : (f : After-fill_weights-last) → (x : ℕ) → x < rows f + hand
 each f =
     let s = S f in
     window_full s.args.own.tenths s.args.rain.now s.args.from s.args.done (rows f) s.args.q.now s.requires.window_ok.0 (deep f) f.fill_depths.ensures
-
--- few weights are laid
-few : (s : Start) → s.args.done < 512
-few s = omega (arith, s.requires.count_value, weights_most s.args.step s.args.own.peak s.requires.numbers_ok.0.timed)
-
-pub overflow_add-done : goal.overflow_add-done
-overflow_add-done c = omega (arith, few (goal.at.overflow_add-done c).Start)
-
-pub slice_bounds-fill_depths-end-2 : goal.slice_bounds-fill_depths-end-2
-slice_bounds-fill_depths-end-2 c =
-    sym (length-take-le hand c.args.q.now (omega (arith, c.requires.window_ok.0.long)))
-
-pub fill_depths-requires : goal.fill_depths-requires
-fill_depths-requires c =
-    let m = c.requires.numbers_ok.1.1 in
-    let long = length-take-le hand c.args.q.now (omega (arith, c.requires.window_ok.0.long)) in
-    (c.requires.numbers_ok.0.curved, (c.requires.numbers_ok.1.0, (omega arith, (omega (arith, m), (omega (arith, few (goal.at.fill_depths-requires c).Start), (omega (arith, long), omega (arith, long)))))))
-
-pub fill_weights-last-requires : goal.fill_weights-last-requires
-fill_weights-last-requires c =
-    record { timing_ok = (c.requires.numbers_ok.0.timed, (c.requires.count_value.0, c.requires.count_value.1.0)); from_bound = (c.requires.count_value.1.1, refl) }
 
 pub lay-requires : goal.lay-requires
 lay-requires c =

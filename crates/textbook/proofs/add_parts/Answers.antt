@@ -90,9 +90,6 @@ overflow_add-rows c =
 pub bounds-rows-i-in-loop-i : goal.bounds-rows-i-in-loop-i
 bounds-rows-i-in-loop-i c = omega (arith, inside (goal.at.bounds-rows-i-in-loop-i c).After-volume-through, (head (goal.at.bounds-rows-i-in-loop-i c).After-volume-through).loop-i.invariant.1.1.long)
 
-pub overflow_add-i : goal.overflow_add-i
-overflow_add-i c = omega (arith, inside (goal.at.overflow_add-i c).After-volume-through, (start (head (goal.at.overflow_add-i c).After-volume-through)).requires.1.1.1.most)
-
 pub loop-i-smaller : goal.loop-i-smaller
 loop-i-smaller c = omega (arith, inside (goal.at.loop-i-smaller c).After-volume-through)
 

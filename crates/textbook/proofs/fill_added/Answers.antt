@@ -43,9 +43,6 @@ offset_bounds-list-t c = omega (arith, (start (head (goal.at.offset_bounds-list-
 pub bounds-list-t : goal.bounds-list-t
 bounds-list-t c = omega (arith, (start (head (goal.at.bounds-list-t c).After-depth-through)).requires.1.1.0)
 
-pub overflow_add-t : goal.overflow_add-t
-overflow_add-t c = omega (arith, (start (head (goal.at.overflow_add-t c).After-depth-through)).requires.1.1.0)
-
 pub loop-t-preserved : goal.loop-t-preserved
 loop-t-preserved c =
     let s = start (head (goal.at.loop-t-preserved c).After-depth-through) in

@@ -10,6 +10,3 @@ use Rattle.textbook.proofs.fill_added.Given as goal
 abbrev pub invariant-loop-t : goal.invariant-loop-t
 invariant-loop-t l =
     (1 ≤ l.t) × ((l.t ≤ length l.rain) × ((length l.list ≡ 2000) × ((l.before ≡ runoff_of l.tenths l.rain (l.t - 1)) × Filled (λ i. added l.tenths l.rain (i + 1)) (l.t - 1) l.list)))
-
-abbrev pub decreases-loop-t : goal.decreases-loop-t
-decreases-loop-t l = length l.rain - l.t

@@ -36,9 +36,6 @@ overflow_mul-piece c = omega (arith, small (goal.at.overflow_mul-piece c).At-loo
 pub overflow_add-t : goal.overflow_add-t
 overflow_add-t c = omega (arith, (start (goal.at.overflow_add-t c).At-loop-t).requires.1.1.1.0.few)
 
-pub overflow_add-t-in-loop-t : goal.overflow_add-t-in-loop-t
-overflow_add-t-in-loop-t c = omega (arith, (start (goal.at.overflow_add-t-in-loop-t c).At-loop-t).requires.1.1.1.0.few, (start (goal.at.overflow_add-t-in-loop-t c).At-loop-t).requires.1.1.0)
-
 pub lay_piece-requires : goal.lay_piece-requires
 lay_piece-requires c =
     let s = start (goal.at.lay_piece-requires c).At-loop-t in (
@@ -55,9 +52,11 @@ loop-t-preserved c =
     let t = c.loop-t.t in
     let more = s.args.more.now in
     let one : ℕ → ℕ = λ k. pick (eqb (t + 1 + s.args.j - 1) k) (get_or more t 0 * s.args.weight) 0 in
-    let back : t + 1 - 1 ≡ t = omega arith in (
+    let back : t + 1 - 1 ≡ t = omega arith in
+    let row : t + s.args.j ≡ t + 1 + s.args.j - 1 = omega arith in (
       omega arith,
       c.lay_piece.ensures
+          ∙ ap (λ (z : ℕ). plus (λ (k : ℕ). pick (eqb z k) (get_or more t 0 * s.args.weight) 0) 1 c.loop-t.rows) row
           ∙ ap (plus one 1) c.loop-t.invariant.1
           ∙ plus_plus (steps_to more s.args.weight s.args.j t) one 1 s.args.rows.now
           ∙ plus_same _ (steps_to more s.args.weight s.args.j (t + 1)) s.args.rows.now

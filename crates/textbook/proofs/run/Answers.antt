@@ -1,66 +1,42 @@
 -- `textbook::run` meets its contract. Assumes nothing.
+use Rattle.std.proofs.Common.{rules}
 use mathlib.Core.Path.{◌≡◌, sym, ap, ◌∙◌}
 use Prim.Native.Nat.{ℕ}
 use native.Mathlib.Omega.{arith}
 use lib.ListN.{length}
 use Rattle.laws.specs.Listed.{rows_from}
-use Rattle.laws.proofs.Listed.{rows_length}
-use Rattle.refusals.specs.declared.Refusal.{Refusal}
-use Rattle.refusals.proofs.Orders.{none_new, some_old}
-use Rattle.checks.specs.Site.{Site, Rows, basin_now, rows_now}
-use Rattle.checks.specs.Needs.{BasinOk}
+use Rattle.laws.proofs.Listed.{rows_length, zeros_all}
+use Rattle.refusals.proofs.Orders.{refused_old, passed_new}
+use Rattle.checks.specs.Site.{basin, found}
 use Rattle.checks.proofs.Ready.{inflow_ready}
 use Rattle.textbook.specs.Textbook.{textbook_rows, textbook_refusal}
 use Rattle.textbook.proofs.run.Goals as goal
-use Rattle.textbook.proofs.run.Goals.{After-clear, Start}
+use Rattle.textbook.proofs.run.Goals.{After-fill}
 
-abbrev x : Start → Site
-x s = basin_now s.args.setup s.args.rain.now s.args.subareas.now
+-- what is filled is rows of zeros, as many as there were
+zeros : (c : After-fill) → c.fill.new.self ≡ rows_from (λ (k : ℕ). 0) 1 (length c.args.rows.now)
+zeros c = c.fill.ensures.after (λ y e. e) ∙ zeros_all 1 (length c.args.rows.now)
 
-abbrev l : Start → Rows
-l s = rows_now s.args.rows.now s.args.outflow.now s.args.storage.now
+long : (c : After-fill) → length c.fill.new.self ≡ length c.args.rows.now
+long c = ap length (zeros c) ∙ rows_length (λ (k : ℕ). 0) 1 (length c.args.rows.now)
 
-abbrev number : Refusal → ℕ
-number v = v.number
-
--- the entry, from the rows that were cleared
-abbrev S : After-clear → Start
-S c = (goal.at.After-clear c).Start
-
-ready : (c : After-clear) → BasinOk (x (S c)) (l (S c))
-ready c =
-    inflow_ready (x (S c)) (l (S c)) (sym (ap number c.inflow_checks-v.ensures) ∙ c.if-v-eq0.true)
-
--- clearing keeps the length
-long : (c : After-clear) → length c.clear.new.rows ≡ length (S c).args.rows.now
-long c = ap length c.clear.ensures ∙ rows_length (λ (k : ℕ). 0) 1 (length (S c).args.rows.now)
+pub returns-in_err-inflow_checks-clause-rows_after : goal.returns-in_err-inflow_checks-clause-rows_after
+unfolding textbook_refusal
+returns-in_err-inflow_checks-clause-rows_after c = search (rules, refused_old)
 
 pub add_records-requires : goal.add_records-requires
 add_records-requires c =
-    let r = ready (goal.at.add_records-requires c).After-clear in (
-      r.list,
-      (
-        r.run.raining,
-        (
-          omega (arith, r.run.few, r.run.lengths.most),
-          (omega (arith, long (goal.at.add_records-requires c).After-clear, r.run.lengths.most), c.clear.ensures ∙ ap (rows_from (λ (k : ℕ). 0) 1) (sym (long (goal.at.add_records-requires c).After-clear))),
-        ),
-      ),
-    )
+    let x = basin c.args.setup c.args.rain.now c.args.subareas.now in
+    let l = found c.args.rows.now c.args.outflow.now c.args.storage.now in
+    let r = inflow_ready x l (search rules) in
+    let e = long (goal.at.add_records-requires c).After-fill in
+    (r.list, (r.run.raining, (omega (arith, r.run.few, r.run.lengths.most), (omega (arith, e, r.run.lengths.most), zeros (goal.at.add_records-requires c).After-fill ∙ ap (rows_from (λ (k : ℕ). 0) 1) (sym e)))))
 
-pub returns-then-v-eq0 : goal.returns-then-v-eq0
+pub returns-clause-rows_after : goal.returns-clause-rows_after
 unfolding textbook_refusal
-returns-then-v-eq0 c =
-    let s = S (goal.at.returns-then-v-eq0 c).After-clear in
-    let e = c.inflow_checks-v.ensures in record {
-      value = e;
-      rows_after = c.add_records.ensures
-          ∙ ap (textbook_rows s.args.setup s.args.rain.now s.args.subareas.now) (long (goal.at.returns-then-v-eq0 c).After-clear)
-          ∙ none_new (textbook_refusal (x s) (l s)) (sym (ap number e) ∙ c.if-v-eq0.true) _ _;
-    }
-
-pub returns-else-v-eq0 : goal.returns-else-v-eq0
-unfolding textbook_refusal
-returns-else-v-eq0 c =
-    let e = c.inflow_checks-v.ensures in
-    record { value = e; rows_after = some_old (textbook_refusal (x (goal.at.returns-else-v-eq0 c).Start) (l (goal.at.returns-else-v-eq0 c).Start)) (λ q. c.if-v-eq0.false (ap number e ∙ q)) _ _ }
+returns-clause-rows_after c =
+    let x = basin c.args.setup c.args.rain.now c.args.subareas.now in
+    let l = found c.args.rows.now c.args.outflow.now c.args.storage.now in
+    c.add_records.ensures
+    ∙ ap (textbook_rows c.args.setup c.args.rain.now c.args.subareas.now) (long (goal.at.returns-clause-rows_after c).After-fill)
+    ∙ passed_new {v = textbook_refusal x l} (search rules) _ _

@@ -6,22 +6,22 @@ use Rattle.wide.specs.Limbs.{value}
 use Rattle.wide.proofs.Limbs.{power_more, power_fits}
 use Rattle.wide.proofs.times_turns.Goals as goal
 
-pub loop-k-init : goal.loop-k-init
-loop-k-init c = (omega arith, record { wide = c.requires.wide; is = simp (pow-zero, mul-one) })
+pub loop-init : goal.loop-init
+loop-init c = record { wide = c.requires.wide; is = simp (pow-zero, mul-one) }
 
 pub times-requires : goal.times-requires
 times-requires c =
     record {
-      wide = c.loop-k.invariant.1.wide;
+      wide = c.loop.invariant.wide;
       most = c.requires.factor.most;
-      fits = power_fits _ _ _ c.requires.factor.least c.loop-k-test.true c.loop-k.invariant.1.is c.requires.fits;
+      fits = power_fits _ _ _ c.requires.factor.least c.loop-test.true c.loop.invariant.is c.requires.fits;
     }
 
-pub loop-k-preserved : goal.loop-k-preserved
-loop-k-preserved c =
-    (omega arith, rw (power_more (value c.args.w.now) (value c.loop-k.w) c.args.factor c.loop-k.k c.loop-k.invariant.1.is) at c.times.ensures)
+pub loop-preserved : goal.loop-preserved
+loop-preserved c =
+    rw (power_more (value c.args.w.now) (value c.loop.w) c.args.factor c.loop.counter c.loop.invariant.is) at c.times.ensures
 
 pub returns : goal.returns
 returns c =
-    let all : c.loop-k.k ≡ c.args.exponent = omega arith in
-    rw all at c.loop-k.invariant.1
+    let all : c.loop.counter ≡ c.args.exponent = omega arith in
+    rw all at c.loop.invariant

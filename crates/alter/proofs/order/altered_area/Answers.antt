@@ -1,12 +1,10 @@
 -- `alter::order::altered_area` meets its contract. Assumes nothing.
 use mathlib.Core.Path.{◌≡◌, ap, ◌∙◌}
 use mathlib.Core.List.{List}
-use Prim.Native.Nat.{ℕ, ◌+◌, ◌-◌, ◌*◌, ◌<◌}
+use Prim.Native.Nat.{ℕ}
 use native.Mathlib.Omega.{arith}
 use Rattle.curve.specs.declared.Ground.{Ground}
-use Rattle.subarea.specs.Records.{width, records_in, area_of}
-use Rattle.checks.specs.Order.{all_area}
-use Rattle.subarea.proofs.Subareas.{part_is, record_length}
+use Rattle.subarea.specs.Records.{area_of}
 use Rattle.alter.specs.Altering.{old_record}
 use Rattle.alter.proofs.OnlyFresh.{old_area}
 use Rattle.alter.proofs.Ground.{area_room}
@@ -18,17 +16,10 @@ S c = (goal.at.After-all_area c).Start
 
 -- the old record's area and the fresh one's
 old : (c : After-all_area) → c.ground-old.result.area ≡ area_of (old_record (S c).args.subareas.now (S c).args.place)
-old c = ap (λ (z : Ground). z.area) c.ground-old.ensures ∙ ap (λ (z : List ℕ). area_of z) (part_is (width * ((S c).args.place - 1)) width (S c).args.subareas.now)
+old c = ap (λ (z : Ground). z.area) c.ground-old.ensures ∙ ap (λ (z : List ℕ). area_of z) c.old_record.ensures.own
 
 own : (c : After-all_area) → c.ground-own.result.area ≡ area_of (S c).args.fresh.now
 own c = ap (λ (z : Ground). z.area) c.ground-own.ensures
-
-pub ground-old-requires : goal.ground-old-requires
-ground-old-requires c =
-    let k = c.args.place in
-    let list = c.args.subareas.now in
-    let here : k - 1 < records_in list = omega (arith, c.requires.place.listed, c.requires.place.last) in
-    rw (part_is (width * (k - 1)) width list) (record_length list c.requires.place.records (k - 1) here, c.requires.patched.each (k - 1) here)
 
 pub overflow_sub-result : goal.overflow_sub-result
 overflow_sub-result c =
@@ -39,12 +30,3 @@ pub overflow_add-result : goal.overflow_add-result
 overflow_add-result c =
     let s = S (goal.at.overflow_add-result c).After-all_area in
     omega (arith, own (goal.at.overflow_add-result c).After-all_area, c.all_area.ensures, area_room s.args.subareas.now s.args.place s.args.fresh.now s.requires)
-
-pub returns : goal.returns
-returns c =
-    let s = S (goal.at.returns c).After-all_area in
-    let all = all_area s.args.subareas.now in
-    let gone = area_of (old_record s.args.subareas.now s.args.place) in
-    ap (λ (z : ℕ). z - c.ground-old.result.area + c.ground-own.result.area) c.all_area.ensures
-    ∙ ap (λ (z : ℕ). all - z + c.ground-own.result.area) (old (goal.at.returns c).After-all_area)
-    ∙ ap (λ (z : ℕ). all - gone + z) (own (goal.at.returns c).After-all_area)

@@ -1,73 +1,69 @@
 -- `checks::list::timing_checks` meets its contract. Assumes nothing.
-use mathlib.Core.Path.{◌≡◌, ap, ◌∙◌}
-use Prim.Native.Nat.{◌+◌, ◌*◌}
-use native.Mathlib.Omega.{arith}
 use lib.ListN.{length}
-use Rattle.refusals.specs.Refusals.{first_after}
-use Rattle.refusals.proofs.Orders.{joined, charged}
+use Rattle.std.proofs.Common.{arith, rules, ◌≡◌, ◌<◌, ◌+◌, ℕ, Bool, List, ap, ◌∙◌}
 use Rattle.hydrograph.specs.InflowRows.{concentration_good, peak_good, weights_good}
+use Rattle.refusals.specs.declared.Rule.{Rule}
+use Rattle.refusals.specs.declared.Rule.TheVariants.{Concentration, Coarse, Weights}
+use Rattle.refusals.specs.Refusals.{Line, or_else, charge}
+use Rattle.refusals.proofs.Scanned.{one_record}
+use Rattle.subarea.specs.Records.{records_in, record_at, time_of}
+use Rattle.subarea.specs.Needs.{AllSegments}
+use Rattle.subarea.proofs.Subareas.{record_length, listed_length, listed_at}
 use Rattle.travel.specs.Needs.{TimeOk}
 use Rattle.travel.proofs.Times.{concentration_ok}
-use Rattle.subarea.specs.Records.{width, records_in, record_at, time_of}
-use Rattle.subarea.proofs.Subareas.{part_is, record_length}
-use Rattle.checks.proofs.Kept.{none_yet, one_record, all_records}
-use Rattle.checks.proofs.list.timing_checks.Lts as Lts
-use Rattle.checks.proofs.list.timing_checks.Reads as Reads
-use Rattle.checks.proofs.list.timing_checks.Tie as Tie
-use Rattle.checks.proofs.list.timing_checks.Invariants.{slow_test, coarse_test, long_test}
+use Rattle.checks.proofs.list.timing_checks.Invariants.{so_far}
 use Rattle.checks.proofs.list.timing_checks.Goals as goal
 
-abbrev At-After-time-time : Type 0
-At-After-time-time = Lts.After-time Tie.the-claims Reads.Pre Reads.Post goal.the-invariant-loop-i goal.the-decreases-loop-i
+-- the Tc is one that segments can have
+time_ok : (s : List ℕ) (i : ℕ) {own : List ℕ} {time : ℕ} → AllSegments s → i < records_in s → own ≡ record_at s i → time ≡ time_of own → TimeOk time
+time_ok s i all l e f = rw (f, e) (concentration_ok (all.each i l).fits)
 
--- the Tc of the record
-told : (c : At-After-time-time) → c.time-time.result ≡ time_of (record_at c.args.subareas.now c.loop-i.i)
-told c = c.time-time.ensures ∙ ap time_of (part_is (width * c.loop-i.i) width c.args.subareas.now)
-
-time_ok : (c : At-After-time-time) → TimeOk c.time-time.result
-time_ok c =
-    let i = c.loop-i.i in
-    rw (told c) (concentration_ok (c.requires.1.1.each i (omega arith)).fits)
-
-pub loop-i-init : goal.loop-i-init
-loop-i-init c =
-    let l = c.args.subareas.now in
-    (omega arith, (c.none-slow.ensures ∙ none_yet (slow_test c.args.setup) l 9, (c.none-coarse.ensures ∙ none_yet (coarse_test c.args.setup) l 10, c.none-long.ensures ∙ none_yet (long_test c.args.setup) l 11)))
+-- one record more, by its Tc
+timed : (r : Rule) (good : ℕ → Bool) (s : List ℕ) (i : ℕ) {own : List ℕ} {time : ℕ} {u v w : Line} → own ≡ record_at s i → time ≡ time_of own
+    → u ≡ or_else v w → v ≡ so_far r good s i → w ≡ charge r (good time) (i + 1) → u ≡ so_far r good s (i + 1)
+timed r good s i e f g h k =
+    one_record (λ j. good (time_of (record_at s j))) r i g h (k ∙ ap (λ t. charge r (good t) (i + 1)) (f ∙ ap time_of e))
 
 pub time-time-requires : goal.time-time-requires
 time-time-requires c =
-    let l = c.args.subareas.now in
-    let i = c.loop-i.i in
-    let own = part_is (width * i) width l in
-    (ap length own ∙ record_length l c.requires.1.0 i (omega arith), rw own (c.requires.1.1.each i (omega arith)))
+    let a = listed_at c.records-own-items.ensures c.loop-i-test.true in
+    rw a.own (record_length c.args.subareas.now c.requires.1.0 c.loop-i.i a.inside, c.requires.1.1.each c.loop-i.i a.inside)
 
 pub peak_check-requires : goal.peak_check-requires
-peak_check-requires c = time_ok c.before.before.before
+peak_check-requires c =
+    let a = listed_at c.records-own-items.ensures c.loop-i-test.true in
+    time_ok c.args.subareas.now c.loop-i.i c.requires.1.1 a.inside a.own c.time-time.ensures
 
 pub weights_check-requires : goal.weights_check-requires
-weights_check-requires c = (c.requires.0, time_ok c.before.before.before.before.before)
-
-pub overflow_add-i : goal.overflow_add-i
-overflow_add-i c = omega (arith, c.loop-i.invariant.0, c.requires.1.0.most)
+weights_check-requires c =
+    let a = listed_at c.records-own-items.ensures c.loop-i-test.true in
+    (c.requires.0, time_ok c.args.subareas.now c.loop-i.i c.requires.1.1 a.inside a.own c.time-time.ensures)
 
 pub loop-i-preserved : goal.loop-i-preserved
 loop-i-preserved c =
-    let g = c.loop-i in
-    let l = c.args.subareas.now in
-    let D = c.args.setup in
-    let tc = told c.before.before.before.before.before.before.before in (
-      omega arith,
-      (
-        one_record (slow_test D) l 8 g.i c.or-slow.ensures g.invariant.1.0 (charged 9 (g.i + 1) c.concentration_check.ensures (ap concentration_good tc)),
-        (one_record (coarse_test D) l 9 g.i c.or-coarse.ensures g.invariant.1.1.0 (charged 10 (g.i + 1) c.peak_check.ensures (ap (peak_good D.step) tc)), one_record (long_test D) l 10 g.i c.or-long.ensures g.invariant.1.1.1 (charged 11 (g.i + 1) c.weights_check.ensures (ap (weights_good D.step) tc))),
-      ),
+    let s = c.args.subareas.now in
+    let D = c.args.setup.step in
+    let i = c.loop-i.i in
+    let own = (listed_at c.records-own-items.ensures c.loop-i-test.true).own in
+    let time = c.time-time.ensures in (
+      timed Concentration concentration_good s i own time (search rules) c.loop-i.invariant.0 c.concentration_check.ensures,
+      (timed Coarse (peak_good D) s i own time (search rules) c.loop-i.invariant.1.0 c.peak_check.ensures, timed Weights (weights_good D) s i own time (search rules) c.loop-i.invariant.1.1 c.weights_check.ensures),
     )
 
+pub returns-in_err-slow : goal.returns-in_err-slow
+returns-in_err-slow c =
+    let s = c.args.subareas.now in
+    let all : c.loop-i.i ≡ records_in s = omega (arith, ap length c.records-own-items.ensures, listed_length s) in
+    search (rules, all)
+
+pub returns-in_err-coarse : goal.returns-in_err-coarse
+returns-in_err-coarse c =
+    let s = c.args.subareas.now in
+    let all : c.loop-i.i ≡ records_in s = omega (arith, ap length c.records-own-items.ensures, listed_length s) in
+    search (rules, all)
+
 pub returns : goal.returns
-unfolding first_after
 returns c =
-    let g = c.loop-i in
-    let l = c.args.subareas.now in
-    let D = c.args.setup in
-    let all : g.i ≡ records_in l = omega arith in
-    joined c.or-2.ensures (joined c.or.ensures (all_records (slow_test D) l 9 g.invariant.1.0 all) (all_records (coarse_test D) l 10 g.invariant.1.1.0 all)) (all_records (long_test D) l 11 g.invariant.1.1.1 all)
+    let s = c.args.subareas.now in
+    let all : c.loop-i.i ≡ records_in s = omega (arith, ap length c.records-own-items.ensures, listed_length s) in
+    search (rules, all)

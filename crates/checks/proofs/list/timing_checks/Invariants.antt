@@ -1,26 +1,18 @@
 -- `checks::list::timing_checks` meets its contract. Assumes nothing.
-use mathlib.Core.Path.{◌≡◌}
-use mathlib.Core.Bool.{Bool}
-use mathlib.Core.List.{List}
-use Prim.Native.Nat.{ℕ, ◌-◌, ◌≤◌}
+use Rattle.std.proofs.Common.{ℕ, ◌≡◌, Bool, List}
 use Rattle.hydrograph.specs.InflowRows.{concentration_good, peak_good, weights_good}
-use Rattle.subarea.specs.declared.Setup.{Setup}
-use Rattle.subarea.specs.Records.{records_in, time_of}
-use Rattle.checks.proofs.Kept.{so_far}
+use Rattle.refusals.specs.declared.Rule.{Rule}
+use Rattle.refusals.specs.declared.Rule.TheVariants.{Concentration, Coarse, Weights}
+use Rattle.refusals.specs.Refusals.{Line, first_of}
+use Rattle.laws.specs.Search.{first_bad_of}
+use Rattle.subarea.specs.Records.{record_at, time_of}
 use Rattle.checks.proofs.list.timing_checks.Given as goal
 
-abbrev pub slow_test : Setup → List ℕ → Bool
-slow_test g r = concentration_good (time_of r)
-
-abbrev pub coarse_test : Setup → List ℕ → Bool
-coarse_test g r = peak_good g.step (time_of r)
-
-abbrev pub long_test : Setup → List ℕ → Bool
-long_test g r = weights_good g.step (time_of r)
+-- the first refusal of the first i records
+abbrev pub so_far : Rule → (ℕ → Bool) → List ℕ → ℕ → Line
+so_far r good s i = first_of r (first_bad_of (λ k. good (time_of (record_at s k))) i)
 
 abbrev pub invariant-loop-i : goal.invariant-loop-i
 invariant-loop-i l =
-    (l.i ≤ records_in l.subareas) × ((l.slow ≡ so_far (slow_test l.setup) l.subareas 9 l.i) × ((l.coarse ≡ so_far (coarse_test l.setup) l.subareas 10 l.i) × (l.long ≡ so_far (long_test l.setup) l.subareas 11 l.i)))
-
-abbrev pub decreases-loop-i : goal.decreases-loop-i
-decreases-loop-i l = l.n - l.i
+    (l.slow ≡ so_far Concentration concentration_good l.subareas l.i)
+    × ((l.coarse ≡ so_far Coarse (peak_good l.setup.step) l.subareas l.i) × (l.long ≡ so_far Weights (weights_good l.setup.step) l.subareas l.i))

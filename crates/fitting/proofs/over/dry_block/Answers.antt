@@ -1,7 +1,7 @@
 -- `fitting::over::dry_block` meets its contract. Assumes nothing.
 use mathlib.Core.Path.{◌≡◌, sym, ap, ◌∙◌, subst}
 use mathlib.Core.List.{List, ◌++◌}
-use Prim.Native.Nat.{ℕ, ◌+◌, ◌/◌, ◌≤◌}
+use Prim.Native.Nat.{ℕ, ◌+◌, ◌≤◌}
 use native.Mathlib.Omega.{arith}
 use lib.ListN.{length, take, length-append}
 use lib.Seq.{take_at, length-take-le}
@@ -37,7 +37,7 @@ slice_bounds-swap_block-end c = sym (length-take-le _ _ (short (goal.at.slice_bo
 
 pub swap_block-requires : goal.swap_block-requires
 swap_block-requires c =
-    let fit = c.requires.tail_fit.0 in
+    let fit = c.requires.tail_fit in
     record { numbers_ok = (fit.was, (fit.is, (fit.raining, fit.parted))); rows_len = (length-take-le (length c.args.inflow.now) _ (short (goal.at.swap_block-requires c).Start), (c.requires.in_bounds.0, (c.requires.in_bounds.1, fit.few))) }
 
 pub slice_bounds-rows-end-2 : goal.slice_bounds-rows-end-2
@@ -49,11 +49,11 @@ slice_bounds-tide_after-end c = sym (ap length (front (goal.at.slice_bounds-tide
 pub tide_after-requires : goal.tide_after-requires
 tide_after-requires c =
     let s = start (goal.at.tide_after-requires c).After-swap_block in
-    let fit = s.requires.tail_fit.0 in
+    let fit = s.requires.tail_fit in
     let new : InflowOk c.swap_block.new.rows = rw c.swap_block.ensures fit.new in
-    (fit.pond, (s.requires.tail_fit.1, subst (λ (l : List ℕ). InflowOk l × (length l ≤ most_rows)) (sym (front (goal.at.tide_after-requires c).After-swap_block _)) (new, omega (arith, written (goal.at.tide_after-requires c).After-swap_block, fit.few))))
+    subst (λ (l : List ℕ). InflowOk l × (length l ≤ most_rows)) (sym (front (goal.at.tide_after-requires c).After-swap_block _)) (new, omega (arith, written (goal.at.tide_after-requires c).After-swap_block, fit.few))
 
 pub returns : goal.returns
 returns c =
     let s = start (goal.at.returns c).After-swap_block in
-    c.tide_after.ensures ∙ ap (tide_of (s.args.step / 2) s.args.pond.now s.args.last) (front (goal.at.returns c).After-swap_block _ ∙ c.swap_block.ensures)
+    c.tide_after.ensures ∙ ap (tide_of s.args.level.now.pond.half s.args.level.now.pond.table.numbers.now s.args.level.now.state) (front (goal.at.returns c).After-swap_block _ ∙ c.swap_block.ensures)

@@ -1,18 +1,7 @@
--- `guarded::ponds::last_row` routes from the empty pond through good states only. The measure is the number of rows that are left.
-use Rattle.pond.proofs.Steps.{empty_ok, arrive_ok}
+-- `guarded::ponds::last_row` routes through good states only.
 use native.Mathlib.Omega.{arith}
+use Rattle.pond.proofs.Steps.{arrive_ok}
 use Rattle.guarded.proofs.ponds.last_row.Goals as goal
 
-pub loop-i-init : goal.loop-i-init
-loop-i-init c = (omega arith, empty_ok _ _)
-
-pub arrive-x-requires : goal.arrive-x-requires
-arrive-x-requires c =
-    arrive_ok c.requires c.loop-i.invariant.1 (omega arith)
-
-pub step-dry-requires : goal.step-dry-requires
-step-dry-requires c =
-    (c.requires, (c.loop-i.invariant.1, omega arith))
-
-pub loop-i-preserved : goal.loop-i-preserved
-loop-i-preserved c = (omega arith, c.step-dry.ensures)
+pub arrive-sum-requires : goal.arrive-sum-requires
+arrive-sum-requires c = arrive_ok c.args.pond.now.sound c.loop-volume.invariant (omega arith)

@@ -22,11 +22,9 @@ unfolding dry_of
 last_ok {h} {p} st vs ok so = reach_ok ok st (passed h p st vs) vs so (omega arith)
 
 pub dry_run-requires : goal.dry_run-requires
-dry_run-requires c =
-    let asked = c.requires in
-    (asked.0, (asked.1.0, (one_small _ asked.1.1, omega arith)))
+dry_run-requires c = (one_small _ c.requires, omega arith)
 
 pub returns : goal.returns
 returns c =
-    let asked = c.requires in
-    rw c.dry_run.ensures (last_ok _ _ asked.0 asked.1.0)
+    let v = c.args.level.now in
+    rw c.dry_run.ensures (last_ok v.state _ v.pond.sound v.sound)

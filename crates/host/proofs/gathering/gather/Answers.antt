@@ -1,6 +1,5 @@
 -- `host::gathering::gather` meets its contract. Assumes nothing.
 use Rattle.std.proofs.Common.{◌≡◌, ◌+◌, ℕ, List, sym, ap, ◌∙◌, length, arith}
-use native.Mathlib.Nat.{le_antisymm}
 use native.Mathlib.Numerals.{add-one}
 use Rattle.host.specs.Gathered.{capped, no_record, put_at, fill_to, gathered}
 use Rattle.host.specs.declared.records.Subarea.{Subarea}
@@ -19,10 +18,11 @@ fill_all i ys e = ap (λ (n : ℕ). fill_to n ys) e
 
 pub loop-i-init : goal.loop-i-init
 unfolding fill_to
-loop-i-init c = (omega arith, c.zeros-flat.ensures)
+loop-i-init c = c.zeros-flat.ensures
 
 pub loop-i-preserved : goal.loop-i-preserved
-loop-i-preserved c = (omega arith, c.put-flat.ensures ∙ ap (λ (z : Flat). put_at z c.loop-i.i (get_or c.args.list.now c.loop-i.i no_record)) c.loop-i.invariant.1 ∙ fill_next c.loop-i.i c.args.list.now)
+loop-i-preserved c =
+    c.put-flat.ensures ∙ ap (λ (z : Flat). put_at z c.loop-i.i (get_or c.args.list.now c.loop-i.i no_record)) c.loop-i.invariant ∙ fill_next c.loop-i.i c.args.list.now
 
 pub returns : goal.returns
-returns c = c.loop-i.invariant.1 ∙ fill_all _ _ (le_antisymm c.loop-i.invariant.0 c.loop-i-test.false ∙ c.at_most-n.ensures)
+returns c = c.loop-i.invariant ∙ fill_all c.loop-i.i c.args.list.now (omega (arith, c.at_most-i-end.ensures))

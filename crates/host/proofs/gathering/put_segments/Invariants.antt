@@ -1,13 +1,8 @@
 -- `host::gathering::put_segments` meets its contract. The invariant: the numbers of the first k segments are stored. Assumes nothing.
 use mathlib.Core.Path.{◌≡◌}
-use Prim.Native.Nat.{◌≤◌, ◌-◌}
 use lib.Seq.{sets}
-use Rattle.travel.specs.TravelTime.{most_segments}
 use Rattle.host.specs.Flattened.{segments_to}
 use Rattle.host.proofs.gathering.put_segments.Given as goal
 
 abbrev pub invariant-loop-k : goal.invariant-loop-k
-invariant-loop-k l = (l.k ≤ most_segments) × (l.to ≡ sets l.initial.to l.at (segments_to l.k l.own))
-
-abbrev pub decreases-loop-k : goal.decreases-loop-k
-decreases-loop-k l = most_segments - l.k
+invariant-loop-k l = l.to ≡ sets l.initial.to l.at (segments_to l.k l.own)

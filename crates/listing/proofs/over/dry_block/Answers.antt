@@ -11,7 +11,6 @@ use Rattle.laws.proofs.Fronts.{front_long, front_has}
 use Rattle.laws.proofs.Listed.{rows_length}
 use Rattle.rows.specs.Needs.{InflowOk, tide_of}
 use Rattle.sums.specs.Needs.{block_rows}
-use Rattle.subarea.specs.Records.{half_of}
 use Rattle.inflow.specs.Inflow.{inflow_at}
 use Rattle.inflow.proofs.Inflows.{block_ok}
 use Rattle.listing.proofs.over.dry_block.Goals as goal
@@ -48,9 +47,9 @@ tide_after-requires c =
     let n = c.args.n in
     let ok = block_ok c.args.setup c.args.rain.now c.args.subareas.now c.requires.list_ok.1.0 c.requires.list_ok.0 first n in
     let few : length (rows_from (row (goal.at.tide_after-requires c).Start) first n) ≤ most_rows = omega (arith, rows_length (row (goal.at.tide_after-requires c).Start) first n, c.requires.le_n.1.0) in
-    (c.requires.pond_ok.0, (c.requires.pond_ok.1, front_has (λ (z : List ℕ). InflowOk z × (length z ≤ most_rows)) n _ _ _ (long (goal.at.tide_after-requires c).After-fill_block) (filled (goal.at.tide_after-requires c).After-fill_block) (ok, few)))
+    front_has (λ (z : List ℕ). InflowOk z × (length z ≤ most_rows)) n _ _ _ (long (goal.at.tide_after-requires c).After-fill_block) (filled (goal.at.tide_after-requires c).After-fill_block) (ok, few)
 
 pub returns : goal.returns
 returns c =
     c.tide_after.ensures
-    ∙ ap (tide_of (half_of c.args.setup) c.args.pond.now c.args.last) (take_at c.fill_block.new.rows _ c.args.n (long (goal.at.returns c).After-fill_block) ∙ filled (goal.at.returns c).After-fill_block)
+    ∙ ap (tide_of c.args.level.now.pond.half c.args.level.now.pond.table.numbers.now c.args.level.now.state) (take_at c.fill_block.new.rows _ c.args.n (long (goal.at.returns c).After-fill_block) ∙ filled (goal.at.returns c).After-fill_block)

@@ -19,10 +19,6 @@ returns-then-rain-t c =
     ∙ ap (depth tenths) (sym c.if-rain-t.true)
     ∙ runoff_own tenths rain c.requires.0 c.requires.1.0 c.args.t (omega arith)
 
-pub depth-requires : goal.depth-requires
-depth-requires c =
-    (c.requires.0, c.requires.1.0.limit c.args.t (omega arith))
-
 pub returns : goal.returns
 returns c =
     c.depth.ensures ∙ runoff_own c.args.tenths c.args.rain.now c.requires.0 c.requires.1.0 c.args.t (omega arith)

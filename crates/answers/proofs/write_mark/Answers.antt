@@ -1,6 +1,0 @@
--- `answers::write_mark` meets its contract. Assumes nothing.
-use mathlib.Core.Path.{refl}
-use Rattle.answers.proofs.write_mark.Goals as goal
-
-pub returns : goal.returns
-returns c = record { value = refl; answer_after = refl; values_after = refl }

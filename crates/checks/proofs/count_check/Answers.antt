@@ -1,6 +1,0 @@
--- `checks::count_check` meets its contract. Assumes nothing.
-use Rattle.refusals.proofs.Orders.{charged}
-use Rattle.checks.proofs.count_check.Goals as goal
-
-pub returns : goal.returns
-returns c = search charged

@@ -1,6 +1,0 @@
--- `checks::last_check` meets its contract. Assumes nothing.
-use Rattle.refusals.proofs.Orders.{charged}
-use Rattle.checks.proofs.last_check.Goals as goal
-
-pub returns : goal.returns
-returns c = search charged

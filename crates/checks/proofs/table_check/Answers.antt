@@ -1,6 +1,0 @@
--- `checks::table_check` meets its contract. Assumes nothing.
-use Rattle.refusals.proofs.Orders.{scanned}
-use Rattle.checks.proofs.table_check.Goals as goal
-
-pub returns : goal.returns
-returns c = search scanned

@@ -1,0 +1,7 @@
+-- `reading::study::pond_rows` has as many as it has read.
+use Rattle.std.proofs.Common.{◌≡◌}
+use Rattle.arrayvec.specs.ArrayVec.{array_vec_len}
+use Rattle.reading.proofs.study.pond_rows.Given as goal
+
+abbrev pub invariant-loop-k : goal.invariant-loop-k
+invariant-loop-k l = array_vec_len l.rows ≡ l.k
