@@ -2,17 +2,17 @@
 #![tactic(auto)]
 
 ghost use Rattle.std.specs.Prelude.{◌≡◌};
-ghost use Rattle.refusals.specs.Refusals.{told};
+ghost use Rattle.refusals.specs.Refusals.{told_by};
 ghost use Rattle.study.specs.Study.{study_refusal_in};
 ghost use Rattle.edit.specs.Edit.{edit_refusal_in, edit_values_in};
 ghost use Rattle.marks.specs.ChartMarks.{kind_of, flow_of, stage_of, mark_refusal_in, mark_values_in};
-ghost use Rattle.answers.specs.StudyNumbers.{study_numbers, study_numbers_of};
-ghost use Rattle.answers.specs.EditNumbers.{edit_numbers, edit_numbers_of, changes_of};
-ghost use Rattle.answers.specs.MarkNumbers.{mark_numbers_of};
-ghost use Rattle.answers.specs.InflowNumbers.{refusal_numbers};
+ghost use Rattle.answers.specs.StudyNumbers.{study_numbers, study_numbers_by};
+ghost use Rattle.answers.specs.EditNumbers.{edit_numbers, edit_numbers_by, changes_of};
+ghost use Rattle.answers.specs.MarkNumbers.{mark_numbers_by};
+ghost use Rattle.answers.specs.InflowNumbers.{refusal_numbers_by};
 
 use marks::{Mark, Marked};
-use refusals::Refusal;
+use refusals::{Numbered, Refusal};
 use rewrite::Edited;
 use study::Figures;
 
@@ -39,9 +39,9 @@ fn write_study(number: u64, place: u64, values: Figures, answer: &mut [u64; 12])
 }
 
 // A study's answer. Gives the refusal number, 0 when done.
-pub fn put_study(own: Result<Figures, Refusal>, answer: &mut [u64; 12]) -> u64
-    ensures value { result ≡ (told (study_refusal_in own)).0 }
-    ensures answer_after { answer.new ≡ study_numbers_of own }
+pub fn put_study<R: Numbered>(own: Result<Figures, Refusal<R>>, answer: &mut [u64; 12]) -> u64
+    ensures value { result ≡ (told_by R.number (study_refusal_in own)).0 }
+    ensures answer_after { answer.new ≡ study_numbers_by R.number own }
 {
     match own {
         Ok(figures) => write_study(0, 0, figures, answer),
@@ -87,9 +87,13 @@ fn write_edit(
 }
 
 // An edit's answer. Gives the refusal number, 0 when done.
-pub fn put_edit(own: Result<Edited, Refusal>, answer: &mut [u64; 13], changes: &mut [i64; 2]) -> u64
-    ensures value { result ≡ (told (edit_refusal_in own)).0 }
-    ensures answer_after { answer.new ≡ edit_numbers_of own }
+pub fn put_edit<R: Numbered>(
+    own: Result<Edited, Refusal<R>>,
+    answer: &mut [u64; 13],
+    changes: &mut [i64; 2],
+) -> u64
+    ensures value { result ≡ (told_by R.number (edit_refusal_in own)).0 }
+    ensures answer_after { answer.new ≡ edit_numbers_by R.number own }
     ensures changes_after { changes.new ≡ changes_of (edit_values_in own) }
 {
     match own {
@@ -136,9 +140,13 @@ fn stage_of(own: Mark) -> f64
 
 // A mark's answer. Gives the refusal number, 0 when done.
 #[tactic(auto, using(crate::proofs::Doubles::zero_double))]
-pub fn put_mark(own: Result<Marked, Refusal>, answer: &mut [u64; 3], values: &mut [f64; 5]) -> u64
-    ensures value { result ≡ (told (mark_refusal_in own)).0 }
-    ensures answer_after { answer.new ≡ mark_numbers_of own }
+pub fn put_mark<R: Numbered>(
+    own: Result<Marked, Refusal<R>>,
+    answer: &mut [u64; 3],
+    values: &mut [f64; 5],
+) -> u64
+    ensures value { result ≡ (told_by R.number (mark_refusal_in own)).0 }
+    ensures answer_after { answer.new ≡ mark_numbers_by R.number own }
     ensures values_after { values.new ≡ mark_values_in own }
 {
     match own {
@@ -159,9 +167,9 @@ pub fn put_mark(own: Result<Marked, Refusal>, answer: &mut [u64; 3], values: &mu
 }
 
 // The answer of inflow rows alone, which has no figures. Gives the refusal number, 0 when done.
-pub fn put_refusal(own: Result<(), Refusal>, answer: &mut [u64; 2]) -> u64
-    ensures value { result ≡ (told own).0 }
-    ensures answer_after { answer.new ≡ refusal_numbers own }
+pub fn put_refusal<R: Numbered>(own: Result<(), Refusal<R>>, answer: &mut [u64; 2]) -> u64
+    ensures value { result ≡ (told_by R.number own).0 }
+    ensures answer_after { answer.new ≡ refusal_numbers_by R.number own }
 {
     let (number, place) = refusals::told(own);
     *answer = [number, place];

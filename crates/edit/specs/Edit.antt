@@ -1,12 +1,12 @@
 -- docs/SCOPE.md, an edit: refusals 16, 17 and 14, the order of all, what an edit answers, and the rows that it leaves.
 -- Letters as in alter's definitions.
-use Rattle.std.specs.Prelude.{List, [], ◌∷◌, ◌++◌, ℕ, ◌+◌, pos, length, drop, Result, Ok, Err, Option, None, Some}
+use Rattle.std.specs.Prelude.{List, [], ◌∷◌, ◌++◌, ℕ, ◌+◌, pos, length, drop, ⊤, Result, Ok, Err, Option, None, Some}
 use Rattle.rows.specs.Routing.{over_row, state_before}
 use Rattle.refusals.specs.declared.Rule.{Rule}
 use Rattle.refusals.specs.declared.Rule.TheVariants.{Over, InflowRow}
 use Rattle.refusals.specs.declared.Refusal.{Refusal}
 use Rattle.checks.specs.Site.{Site, Rows}
-use Rattle.refusals.specs.Refusals.{Line, none, stopped, first_of, first_refusal, answer, after}
+use Rattle.refusals.specs.Refusals.{Line, stopped, first_of, first_refusal, answer, after}
 use Rattle.subarea.specs.Records.{half_of}
 use Rattle.checks.specs.Order.{forged_line}
 use Rattle.study.specs.Study.{classes_all, no_figures}
@@ -61,14 +61,14 @@ unfoldable pub edit_rows : Site → Rows → ℕ → List ℕ → Rows
 edit_rows x l k r = after (edit_refusal x l k r) (new_rows x l k r) l
 
 -- the refusal and the values that an answer has in docs/SCOPE.md: none when done, every value 0 when refused
-abbrev pub edit_refusal_in : EditAnswer → Line
-edit_refusal_in (Ok e) = none
+abbrev pub edit_refusal_in : {R : Type 0} → Result Edited (Refusal R) → Result ⊤ (Refusal R)
+edit_refusal_in (Ok e) = Ok tt
 edit_refusal_in (Err v) = Err v
 
 abbrev pub edit_nothing : Edited
 edit_nothing = record { figures = no_figures; changed = None; peak = pos 0; released = pos 0 }
 
-abbrev pub edit_values_in : EditAnswer → Edited
+abbrev pub edit_values_in : {R : Type 0} → Result Edited (Refusal R) → Edited
 edit_values_in (Ok e) = e
 edit_values_in (Err v) = edit_nothing
 

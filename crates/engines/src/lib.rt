@@ -6,16 +6,16 @@ ghost use Rattle.std.specs.List.{zip};
 ghost use Rattle.checks.specs.Site.{basin, found};
 ghost use Rattle.inflow.specs.Inflow.{inflow_after};
 ghost use Rattle.textbook.specs.Textbook.{textbook_after};
-ghost use Rattle.engines.specs.Compared.{alike_in, first_differing, verdict_of, agrees};
+ghost use Rattle.engines.specs.Compared.{alike_in, first_differing, verdict_of, agrees_by};
 
-use refusals::Refusal;
+use refusals::{Numbered, Refusal, Rule};
 use subarea::Setup;
 
 // What each engine answers, and the first row, from 1, in which their lists differ, if there is one.
 #[derive(Clone, Copy, Debug, PartialEq, Eq)]
-pub struct Verdict {
-    pub fast: Result<(), Refusal>,
-    pub slow: Result<(), Refusal>,
+pub struct Verdict<R = Rule> {
+    pub fast: Result<(), Refusal<R>>,
+    pub slow: Result<(), Refusal<R>>,
     pub row: Option<usize>,
 }
 
@@ -70,10 +70,9 @@ pub fn compare(
     }
 }
 
-// Did both answer the same, by rule and place, and leave the same rows? Called nowhere: docs/PROMISES.md names its theorem.
-#[tactic(auto, unfolding(crate::specs::Compared::agrees))]
-pub fn agree(own: Verdict) -> bool
-    ensures { result ≡ agrees own }
+// Did both answer the same, by number and place, and leave the same rows?
+pub fn agree<R: Numbered>(own: Verdict<R>) -> bool
+    ensures { result ≡ agrees_by R.number own }
 {
-    own.fast == own.slow && own.row.is_none()
+    refusals::told(own.fast) == refusals::told(own.slow) && own.row.is_none()
 }

@@ -106,7 +106,7 @@ mark_told (Peak x y) (Peak z w) k o s = λ i. Peak (o i) (s i)
 abbrev value : ℕ → List Float → Float
 value i l = get_or l i (double_of 0)
 
-marked_told : (v w : Marked) → mark_kind_in (Ok v) ≡ mark_kind_in (Ok w) → mark_values_in (Ok v) ≡ mark_values_in (Ok w) → v ≡ w
+marked_told : (v w : Marked) → kind_of v.mark ≡ kind_of w.mark → doubles_of v ≡ doubles_of w → v ≡ w
 marked_told v w k e =
     λ i. record {
       mark = mark_told v.mark w.mark k (ap (value 0) e) (ap (value 1) e) i;

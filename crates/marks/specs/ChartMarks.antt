@@ -1,5 +1,5 @@
 -- docs/SCOPE.md, 'Chart marks' and refusals 17 and 18: a row's mark and point, and what a mark answers.
-use Rattle.std.specs.Prelude.{◌≡◌, false, List, [], ◌∷◌, ◌++◌, ℕ, ◌+◌, ◌-◌, ◌*◌, ◌/◌, ◌<◌, length, T, eqb, pos, Float, Result, Ok, Err}
+use Rattle.std.specs.Prelude.{◌≡◌, false, List, [], ◌∷◌, ◌++◌, ℕ, ◌+◌, ◌-◌, ◌*◌, ◌/◌, ◌<◌, length, T, eqb, pos, Float, ⊤, Result, Ok, Err}
 use Rattle.std.specs.Float.{binary64}
 use Rattle.std.specs.Float.Ieee.{of_int, in_unsigned, to_unsigned}
 use Rattle.std.specs.Float.Ieee.Exact.{HasValue}
@@ -11,7 +11,7 @@ use Rattle.refusals.specs.declared.Rule.{Rule}
 use Rattle.refusals.specs.declared.Rule.TheVariants.{LastRow, Row}
 use Rattle.refusals.specs.declared.Refusal.{Refusal}
 use Rattle.checks.specs.Site.{Rows, asked}
-use Rattle.refusals.specs.Refusals.{Line, none, unless, first_refusal, answer, after}
+use Rattle.refusals.specs.Refusals.{Line, unless, first_refusal, answer, after}
 use Rattle.checks.specs.Order.{frame_lines, last_good, pond_lines, forged_line}
 use Rattle.marks.specs.declared.Point.{Point}
 use Rattle.marks.specs.declared.Mark.{Mark}
@@ -99,15 +99,15 @@ unfoldable pub mark_values : ℕ → ℕ → List ℕ → Rows → ℕ → List 
 mark_values D first p l k = after (mark_refusal D first p l k) (doubles_of (marked_of D first p l.outflow l.storage k)) no_doubles
 
 -- the refusal, the kind and the values that an answer has: none when done, kind and values 0 when refused
-abbrev pub mark_refusal_in : MarkAnswer → Line
-mark_refusal_in (Ok w) = none
+abbrev pub mark_refusal_in : {R : Type 0} → Result Marked (Refusal R) → Result ⊤ (Refusal R)
+mark_refusal_in (Ok w) = Ok tt
 mark_refusal_in (Err v) = Err v
 
-abbrev pub mark_kind_in : MarkAnswer → ℕ
+abbrev pub mark_kind_in : {R : Type 0} → Result Marked (Refusal R) → ℕ
 mark_kind_in (Ok w) = kind_of w.mark
 mark_kind_in (Err v) = 0
 
-abbrev pub mark_values_in : MarkAnswer → List Float
+abbrev pub mark_values_in : {R : Type 0} → Result Marked (Refusal R) → List Float
 mark_values_in (Ok w) = doubles_of w
 mark_values_in (Err v) = no_doubles
 

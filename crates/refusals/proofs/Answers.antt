@@ -3,10 +3,15 @@ use denote.RattleType.{RattleType}
 use mir.Syntax.{Dict}
 use denote.Param.Laws.{Laws}
 use Rattle.laws.proofs.OneAnswer.{OneAnswer, same}
+use Rattle.refusals.specs.declared.Numbered.{Ghosts as Numbered}
 use Rattle.refusals.proofs.Refusal.none.Kinds as none-kinds
 use Rattle.refusals.proofs.Refusal.none.Reads as none_reads
 use Rattle.refusals.proofs.Rule.number.Kinds as number-kinds
 use Rattle.refusals.proofs.Rule.number.Reads as number-reads
+use Rattle.refusals.proofs.RuleNumbered.number.Kinds as rule-numbered-kinds
+use Rattle.refusals.proofs.RuleNumbered.number.Reads as rule-numbered-reads
+use Rattle.refusals.proofs.U64Numbered.number.Kinds as u64-numbered-kinds
+use Rattle.refusals.proofs.U64Numbered.number.Reads as u64-numbered-reads
 use Rattle.refusals.proofs.told.Kinds as told-kinds
 use Rattle.refusals.proofs.told.Reads as told-reads
 use Rattle.refusals.proofs.Refusal.charge.Kinds as charge-kinds
@@ -47,8 +52,14 @@ or_one R d w κs a x y s t p q = same p q
 pub number_one : OneAnswer number-kinds.ps number-kinds.r number-reads.Post
 number_one κs a x y s t p q = same p q
 
-pub told_one : OneAnswer told-kinds.ps told-kinds.r told-reads.Post
-told_one κs a x y s t p q = same p q
+pub rule_numbered_one : OneAnswer rule-numbered-kinds.ps rule-numbered-kinds.r rule-numbered-reads.Post
+rule_numbered_one κs a x y s t p q = same p q
+
+pub u64_numbered_one : OneAnswer u64-numbered-kinds.ps u64-numbered-kinds.r u64-numbered-reads.Post
+u64_numbered_one κs a x y s t p q = same p q
+
+pub told_one : (R : RattleType) (d : Laws R) (g : Numbered R.Denot) (w : Dict) → OneAnswer (told-kinds.ps R d) (told-kinds.r R d) (told-reads.Post R d g w)
+told_one R d g w κs a x y s t p q = same p q
 
 pub charge_one : (R : RattleType) (d : Laws R) (w : Dict) → OneAnswer (charge-kinds.ps R d) (charge-kinds.r R d) (charge-reads.Post R d w)
 charge_one R d w κs a x y s t p q = same p q

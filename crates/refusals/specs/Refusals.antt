@@ -43,10 +43,14 @@ abbrev pub passes : Line → Bool
 passes (Ok u) = true
 passes (Err e) = false
 
--- the number and the place that are told: 0 and 0 for none
+-- the number and the place that are told, where a rule r is told by `number r`: 0 and 0 for none
+abbrev pub told_by : {R : Type 0} → (R → ℕ) → Result ⊤ (Refusal R) → ℕ × ℕ
+told_by number (Ok u) = (0, 0)
+told_by number (Err e) = (number e.rule, e.place)
+
+-- of a line: by its rule's number
 abbrev pub told : Line → ℕ × ℕ
-told (Ok u) = (0, 0)
-told (Err e) = (number_of e.rule, e.place)
+told = told_by number_of
 
 -- an error, unless a test holds
 abbrev pub check_of : {E : Type 0} → Bool → E → Result ⊤ E

@@ -1,8 +1,8 @@
 // Refusals in their order: a rule and a place of docs/SCOPE.md, and the first of several.
 #![tactic(auto)]
 
-ghost use Rattle.std.specs.Prelude.{◌≡◌, Some, IfSome, ◌<◌};
-ghost use Rattle.refusals.specs.Refusals.{number_of, told, none, or_else, check_of, charge, first_of, first_at, stopped};
+ghost use Rattle.std.specs.Prelude.{◌≡◌, ℕ, Some, IfSome, ◌<◌};
+ghost use Rattle.refusals.specs.Refusals.{number_of, told_by, none, or_else, check_of, charge, first_of, first_at, stopped};
 
 use std::fmt;
 
@@ -37,6 +37,30 @@ impl Rule {
         ensures { result ≡ number_of self }
     {
         self as u64
+    }
+}
+
+// A rule that has a number, by which it is told. A rule of docs/SCOPE.md has its own; a number is told as it is.
+pub trait Numbered {
+    ghost number: { Self → ℕ };
+
+    fn number(self) -> u64
+        ensures { result ≡ number self };
+}
+
+impl Numbered for Rule {
+    ghost number = { number_of };
+
+    fn number(self) -> u64 {
+        Rule::number(self)
+    }
+}
+
+impl Numbered for u64 {
+    ghost number = { λ n. n };
+
+    fn number(self) -> u64 {
+        self
     }
 }
 
@@ -90,8 +114,8 @@ pub fn stopped(at: usize, many: usize) -> Option<usize>
 }
 
 // The number and the place that are told of a line: 0 and 0 for none.
-pub fn told(line: Result<(), Refusal>) -> (u64, u64)
-    ensures { result ≡ told line }
+pub fn told<R: Numbered>(line: Result<(), Refusal<R>>) -> (u64, u64)
+    ensures { result ≡ told_by R.number line }
 {
     match line {
         Ok(()) => (0, 0),

@@ -1,5 +1,5 @@
 -- docs/SCOPE.md, 'Figures of a study' and 'Refusal numbers and their order': what a study answers, and what it leaves in the row lists.
-use Rattle.std.specs.Prelude.{List, [], ◌∷◌, ◌++◌, ℕ, Result, Ok, Err}
+use Rattle.std.specs.Prelude.{List, [], ◌∷◌, ◌++◌, ℕ, ⊤, Result, Ok, Err}
 use Rattle.laws.specs.Sum.{sum_to}
 use Rattle.curve.specs.CurveNumbers.{patches_in, class_area}
 use Rattle.curve.specs.declared.Classes.{Classes}
@@ -10,7 +10,7 @@ use Rattle.rows.specs.declared.RowFigures.{RowFigures}
 use Rattle.refusals.specs.declared.Rule.{Rule}
 use Rattle.refusals.specs.declared.Rule.TheVariants.{Over}
 use Rattle.refusals.specs.declared.Refusal.{Refusal}
-use Rattle.refusals.specs.Refusals.{Line, none, first_of, first_refusal, answer, after}
+use Rattle.refusals.specs.Refusals.{Line, first_of, first_refusal, answer, after}
 use Rattle.subarea.specs.Records.{half_of, records_in, record_at, patches}
 use Rattle.checks.specs.Site.{Site, Rows}
 use Rattle.checks.specs.Order.{check_lines}
@@ -81,15 +81,15 @@ unfoldable pub study_rows : Site → Rows → Rows
 study_rows x l = after (study_refusal x l) (routed (half_of x.setup) x.pond (inflow_of x l)) l
 
 -- the refusal and the values that an answer has in docs/SCOPE.md: none when done, every value 0 when refused
-abbrev pub study_refusal_in : StudyAnswer → Line
-study_refusal_in (Ok f) = none
+abbrev pub study_refusal_in : {R : Type 0} → Result Figures (Refusal R) → Result ⊤ (Refusal R)
+study_refusal_in (Ok f) = Ok tt
 study_refusal_in (Err e) = Err e
 
 abbrev pub no_figures : Figures
 no_figures =
     record { inflow = 0; released = 0; storage = 0; peak = 0; row = 0; stage = 0; surfaces = 0; districts = 0; lots = 0; rural = 0 }
 
-abbrev pub study_values_in : StudyAnswer → Figures
+abbrev pub study_values_in : {R : Type 0} → Result Figures (Refusal R) → Figures
 study_values_in (Ok f) = f
 study_values_in (Err e) = no_figures
 

@@ -3,12 +3,13 @@ use mathlib.Core.Path.{◌≡◌}
 use mathlib.Core.List.{List}
 use Prim.Native.Nat.{ℕ}
 use Rattle.std.specs.Prelude.{Option}
+use Rattle.refusals.specs.declared.Rule.{Rule}
 use Rattle.refusals.specs.Refusals.{Line}
 use Rattle.engines.specs.declared.Verdict.{Verdict}
 use Rattle.engines.specs.Compared.{first_differing, verdict_of}
 use Rattle.engines.proofs.compare.Goals as goal
 
-abbrev verdict : Line → Line → Option ℕ → Verdict
+abbrev verdict : Line → Line → Option ℕ → Verdict Rule
 verdict fast slow row = record { fast = fast; slow = slow; row = row }
 
 -- a verdict, from what it is made of
