@@ -5,7 +5,10 @@
 mod pairs;
 mod verdicts;
 
-use reading::{FileError, ROWS_ROOM, Study};
+ghost use Rattle.std.specs.Prelude.{IsTrue};
+ghost use Rattle.desk.specs.Says.{says_same};
+
+use reading::{FileError, ROWS_ROOM, Stream, Study};
 use std::env::{Env, FillError};
 use std::io;
 use std::rt::Files;
@@ -52,7 +55,11 @@ const KEPT: [&str; 35] = [
 
 // Runs both engines over a study, and gives what is said of them. The pond's table is read, since it is a part of the file, and
 // neither engine takes one. Of the outflow and storage lists an engine reads the lengths alone, so that one list serves as both.
-fn compared(study: &Study) -> Said {
+// The lists have a frame of their own, which does not stand yet where the study's file is read.
+#[inline(never)]
+fn compared(study: &Study) -> Said
+    ensures { IsTrue (says_same result) }
+{
     let rows = study.rows;
     let mut fast = [0; ROWS_ROOM];
     let mut slow = [0; ROWS_ROOM];
@@ -83,8 +90,9 @@ fn print_fault(err: &impl Print, name: &[u8], error: FileError) -> io::Result<()
 // Works the study in a file, and tells whether the engines differ. A file that is no study's has its line on standard error, and
 // is none that differs. Nothing can be told where a stream takes no more, and the other studies are worked all the same.
 fn differs(rt: &impl Files, out: &impl Print, err: &impl Print, name: &[u8]) -> bool {
-    match reading::load(rt, name) {
-        Ok(study) => {
+    let mut study = Study::new();
+    match reading::load_into(rt, name, &mut study) {
+        Ok(()) => {
             let said = compared(&study);
             let _ = verdicts::print(out, name, &said);
             said.differs()
@@ -146,5 +154,5 @@ fn run<R: Env + Files>(rt: &R, out: &impl Print, err: &impl Print) {
 // What is wrong is told by a line on standard error, and the status is 0 also then: where the program is run by tools/program,
 // such a line makes it 1.
 fn main(rt: HostRuntime) {
-    run(&rt, &rt.stdout(), &rt.stderr());
+    run(&rt, &Stream::new(rt.stdout()), &Stream::new(rt.stderr()));
 }

@@ -1,4 +1,8 @@
 // What the desk says of two answers: that they are the same, the first row that differs, or both refusals.
+ghost use Rattle.std.specs.Prelude.{◌≡◌, not};
+ghost use Rattle.engines.specs.Compared.{agrees};
+ghost use Rattle.desk.specs.Says.{says_same};
+
 use engines::Verdict;
 use reading::Thousandths;
 use refusals::Refusal;
@@ -25,20 +29,29 @@ pub(crate) enum Said {
 
 impl Said {
     // Of rows that the first engine left. Where the refusals differ, no row of a refused study says more.
-    pub(crate) fn of(verdict: Verdict, rows: &[u64]) -> Said {
+    #[tactic(auto, unfolding(engines::specs::Compared::agrees))]
+    pub(crate) fn of(verdict: Verdict, rows: &[u64]) -> Said
+        ensures { says_same result ≡ agrees verdict }
+    {
         let Verdict { fast, slow, row } = verdict;
-        match (fast, row) {
-            _ if fast != slow => Said::Refusals { fast, slow },
-            (_, Some(row)) => Said::Row(row),
-            (Err(refusal), None) => Said::BothRefuse(refusal),
-            (Ok(()), None) => Said::Same {
-                rows: rows.len(),
-                greatest: rows.iter().copied().max().unwrap_or(0),
-            },
+        if engines::agree(verdict) {
+            return match fast {
+                Ok(()) => Said::Same {
+                    rows: rows.len(),
+                    greatest: rows.iter().copied().max().unwrap_or(0),
+                },
+                Err(refusal) => Said::BothRefuse(refusal),
+            };
+        }
+        match row {
+            Some(row) if fast == slow => Said::Row(row),
+            _ => Said::Refusals { fast, slow },
         }
     }
 
-    pub(crate) fn differs(&self) -> bool {
+    pub(crate) fn differs(&self) -> bool
+        ensures { result ≡ not (says_same self.now) }
+    {
         match self {
             Said::Same { .. } | Said::BothRefuse(_) => false,
             Said::Row(_) | Said::Refusals { .. } => true,

@@ -9,6 +9,7 @@ mod table;
 mod tally;
 mod text;
 
+use reading::Stream;
 use std::io;
 use std::rt::Files;
 use tally::Tally;
@@ -52,5 +53,5 @@ fn run(rt: &impl Files, out: &impl Print) -> io::Result<()> {
 
 // The status is 0 whatever the figures are, and also where standard output takes no more.
 fn main(rt: HostRuntime) {
-    let _ = run(&rt, &rt.stdout());
+    let _ = run(&rt, &Stream::new(rt.stdout()));
 }

@@ -72,20 +72,22 @@ impl<'a> Row<'a> {
     }
 
     // The row's numbers. A word that is none is above the limits, so that the engine refuses it where it stands.
-    fn list(&self) -> ArrayVec<u64, ROOM> {
-        let mut list = ArrayVec::new();
+    fn list<'b>(&self, room: &'b mut ArrayVec<u64, ROOM>) -> &'b [u64] {
         for word in self.numbers.split_inclusive(|byte| *byte == b' ') {
             let number = decimal::whole(without_end(word, b' '));
-            if list.try_push(number.unwrap_or(ABOVE_LIMITS)).is_err() {
-                return ArrayVec::new();
+            if room.try_push(number.unwrap_or(ABOVE_LIMITS)).is_err() {
+                return &[];
             }
         }
-        list
+        room.as_slice()
     }
 
+    // What the engine takes of the stack is gone before the row is printed.
+    #[inline(never)]
     fn figures(&self) -> Four {
+        let mut room = ArrayVec::new();
         match self.function.first() {
-            Some(&letter) => guarded::given_by(letter, &self.list()),
+            Some(&letter) => guarded::given_by(letter, self.list(&mut room)),
             None => [None; 4],
         }
     }

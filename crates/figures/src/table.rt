@@ -10,15 +10,16 @@ use std::{fs, io};
 // A file of so many bytes may be longer, and is not worked.
 const ROOM: usize = 65536;
 
-// The bytes of a file, none where they cannot be read. A read that fails ends them.
-fn contents(rt: &impl Files, file: &str) -> Option<ArrayVec<u8, ROOM>> {
-    let mut bytes = ArrayVec::<u8, ROOM>::new();
+// The bytes of a file, read into `room`; none where they cannot be read. A read that fails ends them. What reading takes of the
+// stack is gone before a row is worked.
+#[inline(never)]
+fn contents<'a>(rt: &impl Files, file: &str, room: &'a mut ArrayVec<u8, ROOM>) -> Option<&'a [u8]> {
     let mut start = fs::open(rt, file).ok()?.take(ROOM as u64);
-    let _ = io::copy(&mut start, &mut bytes);
-    if bytes.is_empty() || bytes.is_full() {
+    let _ = io::copy(&mut start, room);
+    if room.is_empty() || room.is_full() {
         None
     } else {
-        Some(bytes)
+        Some(room.as_slice())
     }
 }
 
@@ -30,13 +31,14 @@ pub(crate) fn work(
     file: &str,
     tally: &mut Tally,
 ) -> io::Result<()> {
-    let Some(bytes) = contents(rt, file) else {
+    let mut room = ArrayVec::new();
+    let Some(bytes) = contents(rt, file, &mut room) else {
         print!(out; "{file} cannot be read, or not as a whole: ")?;
         let verdict = row::unreadable(out)?;
         tally.count(verdict, word, file.as_bytes());
         return Ok(());
     };
-    for line in text::without_end(&bytes, b'\n')
+    for line in text::without_end(bytes, b'\n')
         .split(|byte| *byte == b'\n')
         .skip(1)
     {

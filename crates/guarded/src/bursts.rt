@@ -1,5 +1,5 @@
 // The sum of products that every study takes, alone: on ordinates and depths that no study has.
-ghost use Rattle.std.specs.Prelude.{◌≤◌, IfSome};
+ghost use Rattle.std.specs.Prelude.{◌≤◌, OnSome, length};
 ghost use Rattle.laws.specs.Limits.{most_weights};
 ghost use Rattle.hydrograph.specs.Needs.{Below, most_depth};
 
@@ -9,12 +9,11 @@ use laws::limits;
 // The most that a weight is, in millionths of the peak.
 const MOST_WEIGHT: u64 = 1000000;
 
-// The first numbers in a list of their own, 0 for those that are not there; none where one is above the most.
-fn laid<const N: usize>(numbers: &[u64], count: usize, most: u64) -> Option<[u32; N]>
-    requires { (count ≤ N) × (most ≤ most_depth) }
-    ensures { IfSome result (λ list. Below list count most) }
+// Lays the first numbers into a list, 0 for those that are not there; none where one is above the most.
+fn laid(numbers: &[u64], count: usize, most: u64, list: &mut [u32]) -> Option<()>
+    requires { (count ≤ length list.old) × (most ≤ most_depth) }
+    ensures { OnSome result (Below list.new count most) }
 {
-    let mut list = [0u32; N];
     for i in 0..count {
         let own = numbers.get(i).copied().unwrap_or(0);
         if own > most {
@@ -22,15 +21,17 @@ fn laid<const N: usize>(numbers: &[u64], count: usize, most: u64) -> Option<[u32
         }
         list[i] = own as u32;
     }
-    Some(list)
+    Some(())
 }
 
 // A row sums as many products as its number: entry 0, which is always 0, is in none. A sum above the limits is no figure.
 fn summed(ordinates: &[u64], depths: &[u64], row: usize) -> Option<u64>
     requires { row ≤ most_weights }
 {
-    let weights: [u32; limits::MOST_WEIGHTS] = laid(ordinates, row, MOST_WEIGHT)?;
-    let entries: [u32; hydrograph::ENTRIES] = laid(depths, row + 1, MOST_DEPTH)?;
+    let mut weights = [0; limits::MOST_WEIGHTS];
+    let mut entries = [0; hydrograph::ENTRIES];
+    laid(ordinates, row, MOST_WEIGHT, &mut weights)?;
+    laid(depths, row + 1, MOST_DEPTH, &mut entries)?;
     let sum = hydrograph::dot(&weights, &entries, row, row);
     if sum < ABOVE_LIMITS { Some(sum) } else { None }
 }

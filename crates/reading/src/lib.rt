@@ -1,5 +1,5 @@
-// A study's file: the study that its words spell, and the columns in which its numbers are printed. docs/SHEET.md has the
-// format.
+// A study's file: the study that its words spell, the columns in which its numbers are printed, and the streams that programs
+// print to. docs/SHEET.md has the format.
 #![tactic(auto)]
 
 mod columns;
@@ -7,11 +7,13 @@ mod faults;
 mod file;
 mod items;
 mod reader;
+mod stream;
 mod study;
 mod words;
 
 pub use columns::{Clock, Hundredths, TenThousandths, Tenths, Thousandths};
 pub use faults::{Fault, FaultKind, FileError, Most};
-pub use file::load;
+pub use file::{load, load_into};
 pub use items::Item;
-pub use study::{ROWS_ROOM, Study};
+pub use stream::Stream;
+pub use study::{POND_ROOM, RAIN_ROOM, ROWS_ROOM, SUBAREAS_ROOM, Study};

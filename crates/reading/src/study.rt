@@ -1,16 +1,17 @@
 // A study as its file gives it.
-ghost use Rattle.std.specs.Prelude.{◌≡◌, ◌≤◌, ◌*◌};
+ghost use Rattle.std.specs.Prelude.{⊤, ◌≡◌, ◌≤◌, ◌*◌, []};
 ghost use Rattle.std.specs.List.{flat_map};
 ghost use Rattle.arrayvec.specs.ArrayVec.{array_vec_len};
 ghost use Rattle.travel.specs.TravelTime.{segment_width, most_segments};
 ghost use Rattle.pond.specs.PondRows.{row_width};
-ghost use Rattle.reading.specs.Bounds.{pond_room, LaidOk};
+ghost use Rattle.reading.specs.Bounds.{rain_room, subareas_room, pond_room, LaidOk};
 
 use crate::faults::{Fault, Most};
 use crate::items::Item;
 use crate::reader::Reader;
 use arrayvec::ArrayVec;
 use laws::limits;
+use std::alloc::AllocError;
 use subarea::Setup;
 use travel::Segment;
 
@@ -18,19 +19,21 @@ use travel::Segment;
 /// by its number.
 pub const ROWS_ROOM: usize = limits::MOST_ROWS + 1;
 
-// Rain has an entry more than it has steps.
-const RAIN_ROOM: usize = ROWS_ROOM + 1;
+/// Rain entries: rain has one more than it has steps.
+pub const RAIN_ROOM: usize = ROWS_ROOM + 1;
 
-const SUBAREAS_ROOM: usize = limits::MOST_SUBAREAS + 1;
+/// Subareas, of `subarea::WIDTH` numbers each.
+pub const SUBAREAS_ROOM: usize = limits::MOST_SUBAREAS + 1;
 
-const POND_ROOM: usize = pond::MOST_POND_ROWS + 1;
+/// Pond rows, of `pond::ROW_WIDTH` numbers each.
+pub const POND_ROOM: usize = pond::MOST_POND_ROWS + 1;
 
 // The numbers of a segment in a file: kind, length and one rate, also of a kind that the engine refuses; sheet and channel
 // flow have a number for each place.
 const RATED: usize = 3;
 
 /// The numbers of a run, and the lists that the engine is lent: rain entries, subareas' records and pond rows.
-#[derive(Drop)]
+#[derive(Debug, Drop, PartialEq, Eq)]
 pub struct Study {
     pub setup: Setup,
     pub rows: usize,
@@ -41,22 +44,40 @@ pub struct Study {
 }
 
 impl Study {
+    /// A study of no rows, with nothing in its lists.
+    pub fn new() -> Study
+        ensures rows { result.rows ≡ 0 }
+        ensures lists { (result.rain.items ≡ []) × (result.records.items ≡ []) × (result.pond_rows.items ≡ []) }
+    {
+        Study {
+            setup: Setup {
+                step: 0,
+                first: 0,
+                rule: 0,
+            },
+            rows: 0,
+            rain: ArrayVec::new(),
+            records: ArrayVec::new(),
+            pond_rows: ArrayVec::new(),
+        }
+    }
+
     /// Reads the study that a text spells. The first fault ends the reading; what the engine refuses is none.
     pub fn read(text: &[u8]) -> Result<Study, Fault> {
+        let mut study = Study::new();
+        study.fill(text)?;
+        Ok(study)
+    }
+
+    // Reads a study into this one, in the place of what it held.
+    pub(crate) fn fill(&mut self, text: &[u8]) -> Result<(), Fault> {
         let mut reader = Reader::new(text);
-        let rows = reader.count(Item::Rows, Most::Count(limits::MOST_ROWS), ROWS_ROOM)?;
-        let setup = setup(&mut reader)?;
-        let rain = rain(&mut reader)?;
-        let records = records(&mut reader)?;
-        let pond_rows = pond_rows(&mut reader)?;
-        reader.finish()?;
-        Ok(Study {
-            setup,
-            rows,
-            rain,
-            records,
-            pond_rows,
-        })
+        self.rows = reader.count(Item::Rows, Most::Count(limits::MOST_ROWS), ROWS_ROOM)?;
+        self.setup = setup(&mut reader)?;
+        rain(&mut reader, &mut self.rain)?;
+        records(&mut reader, &mut self.records)?;
+        pond_rows(&mut reader, &mut self.pond_rows)?;
+        reader.finish()
     }
 
     /// The subareas' records, one behind the other.
@@ -74,6 +95,24 @@ impl Study {
     }
 }
 
+// By hand: the derive does not show that a clone keeps `laid`.
+impl Clone for Study {
+    ghost is_clone = { λ s t. (t.setup ≡ s.setup) × (t.rows ≡ s.rows) × (t.rain.items ≡ s.rain.items)
+        × (t.records.items ≡ s.records.items) × (t.pond_rows.items ≡ s.pond_rows.items) };
+
+    ghost is_infallible = { λ _. ⊤ };
+
+    fn clone(&self) -> Result<Study, AllocError> {
+        Ok(Study {
+            setup: self.setup,
+            rows: self.rows,
+            rain: self.rain.clone()?,
+            records: self.records.clone()?,
+            pond_rows: self.pond_rows.clone()?,
+        })
+    }
+}
+
 fn setup(reader: &mut Reader<'_>) -> Result<Setup, Fault> {
     let step = reader.next(Item::Step)?;
     let first = reader.next(Item::First)?;
@@ -81,25 +120,30 @@ fn setup(reader: &mut Reader<'_>) -> Result<Setup, Fault> {
     Ok(Setup { step, first, rule })
 }
 
-fn rain(reader: &mut Reader<'_>) -> Result<ArrayVec<u64, RAIN_ROOM>, Fault> {
+fn rain(reader: &mut Reader<'_>, rain: &mut ArrayVec<u64, RAIN_ROOM>) -> Result<(), Fault>
+    ensures { array_vec_len rain.new ≤ rain_room }
+{
+    rain.clear();
     let entries = reader.count(Item::Entries, Most::OneMoreThanRows, RAIN_ROOM)?;
-    let mut rain = ArrayVec::new();
     for k in 0..entries {
         rain.push(reader.next(Item::Entry(k))?);
     }
-    Ok(rain)
+    Ok(())
 }
 
 fn records(
     reader: &mut Reader<'_>,
-) -> Result<ArrayVec<[u64; subarea::WIDTH], SUBAREAS_ROOM>, Fault> {
+    records: &mut ArrayVec<[u64; subarea::WIDTH], SUBAREAS_ROOM>,
+) -> Result<(), Fault>
+    ensures { array_vec_len records.new ≤ subareas_room }
+{
+    records.clear();
     let most = Most::Count(limits::MOST_SUBAREAS);
     let count = reader.count(Item::Subareas, most, SUBAREAS_ROOM)?;
-    let mut records = ArrayVec::new();
     for k in 0..count {
         records.push(record(reader, k + 1)?);
     }
-    Ok(records)
+    Ok(())
 }
 
 // One subarea's record. The places past its patches and its segments stay 0.
@@ -152,14 +196,17 @@ fn numbers_of(kind: u64) -> usize
 
 fn pond_rows(
     reader: &mut Reader<'_>,
-) -> Result<ArrayVec<[u64; pond::ROW_WIDTH], POND_ROOM>, Fault> {
+    rows: &mut ArrayVec<[u64; pond::ROW_WIDTH], POND_ROOM>,
+) -> Result<(), Fault>
+    ensures { array_vec_len rows.new ≤ pond_room }
+{
+    rows.clear();
     let most = Most::Count(pond::MOST_POND_ROWS);
     let count = reader.count(Item::PondRows, most, POND_ROOM)?;
-    let mut rows = ArrayVec::new();
     for k in 0..count {
         rows.push(pond_row(reader, pond::ROW_WIDTH * k)?);
     }
-    Ok(rows)
+    Ok(())
 }
 
 // One row, from a place of their list on.

@@ -8,7 +8,7 @@ mod site;
 ghost use Rattle.std.specs.Prelude.{length};
 ghost use Rattle.sheet.specs.Bounds.{AsMany, Told};
 
-use reading::{ROWS_ROOM, Study};
+use reading::{ROWS_ROOM, Stream, Study};
 use refusals::Refusal;
 use std::env::{Env, FillError};
 use std::io;
@@ -60,6 +60,8 @@ fn worked(
     answered(out, err, answer, study, inflow, outflow, storage)
 }
 
+// The lists have a frame of their own, which does not stand yet where the study's file is read.
+#[inline(never)]
 fn lent(out: &impl Print, err: &impl Print, study: &Study) -> io::Result<()> {
     let rows = study.rows;
     let mut inflow = [0; ROWS_ROOM];
@@ -76,8 +78,9 @@ fn lent(out: &impl Print, err: &impl Print, study: &Study) -> io::Result<()> {
 }
 
 fn run(rt: &impl Files, out: &impl Print, err: &impl Print, name: &[u8]) -> io::Result<()> {
-    match reading::load(rt, name) {
-        Ok(study) => lent(out, err, &study),
+    let mut study = Study::new();
+    match reading::load_into(rt, name, &mut study) {
+        Ok(()) => lent(out, err, &study),
         Err(error) => {
             err.write_all(name)?;
             println!(err; ": {error}")
@@ -107,10 +110,10 @@ fn named<'a>(rt: &impl Env, path: &'a mut [u8]) -> Option<&'a [u8]> {
 // What is wrong is told by a line on standard error, and the status is 0 also then: where the program is run by tools/program,
 // such a line makes it 1. Nothing can be told where a stream takes no more.
 fn main(rt: HostRuntime) {
-    let err = rt.stderr();
+    let err = Stream::new(rt.stderr());
     let mut path = [0u8; 4096];
     let _ = match named(&rt, &mut path) {
-        Some(name) => run(&rt, &rt.stdout(), &err, name),
+        Some(name) => run(&rt, &Stream::new(rt.stdout()), &err, name),
         None => println!(err; "usage: sheet [FILE]"),
     };
 }

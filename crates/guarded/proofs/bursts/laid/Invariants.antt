@@ -3,4 +3,4 @@ use Rattle.hydrograph.specs.Needs.{Below}
 use Rattle.guarded.proofs.bursts.laid.Given as goal
 
 abbrev pub invariant-loop-i : goal.invariant-loop-i
-invariant-loop-i g l = Below l.list l.i l.most
+invariant-loop-i l = Below l.list l.i l.most
