@@ -79,7 +79,8 @@ fn ratio_at(i: usize) -> u64
     }
 }
 
-// When knot i stands, in tenths of a second.
+// When knot i stands, in tenths of a second: the pen's alone. `line_at` and `weight`, which the textbook's engine calls too,
+// multiply for themselves.
 #[tactic(auto, using(crate::proofs::Lines::time_most, crate::proofs::Lines::knot_fits))]
 fn knot_at(peak: u64, i: usize) -> u64
     requires { (peak ≤ 400000) × (i < 33) }
@@ -90,12 +91,13 @@ fn knot_at(peak: u64, i: usize) -> u64
 
 // The line between knots on which a time, in tenths of a second, lies. Not by `position`: what its closure asks of the knots did
 // not prove.
+#[tactic(auto, using(crate::proofs::Lines::time_most, crate::proofs::Lines::knot_fits))]
 fn line_at(peak: u64, t: u64) -> usize
     requires { peak ≤ 400000 }
     ensures { result ≡ line_at peak t }
 {
     for i in 0..32 {
-        if t <= knot_at(peak, i + 1) {
+        if t <= time_at(i + 1) * peak {
             return i;
         }
     }
@@ -120,8 +122,8 @@ pub fn weight(peak: u64, step: u64, j: u64) -> u64
     let i = line_at(peak, t);
     on_line(
         t,
-        knot_at(peak, i),
-        knot_at(peak, i + 1),
+        time_at(i) * peak,
+        time_at(i + 1) * peak,
         ratio_at(i),
         ratio_at(i + 1),
     )

@@ -19,6 +19,22 @@ pub const SEGMENT_WIDTH: usize = 5;
 
 pub const MOST_SEGMENTS: usize = 6;
 
+// Kinds of segments. The last two have five numbers, the others three and two spare ones.
+const UNPAVED: u64 = 1;
+
+const PAVED: u64 = 2;
+
+const GIVEN: u64 = 3;
+
+pub const SHEET: u64 = 4;
+
+pub const CHANNEL: u64 = 5;
+
+// Sheet rules: TR-55 of 1986; WinTR-55 and NEH 630 chapter 15.
+pub const TR55: u64 = 1;
+
+pub const WINTR55: u64 = 2;
+
 // Divided first: T^2 K^2 s would not fit 64 bits, and L^2 10^12 just does.
 fn shallow_time(constant: u64, length: u64, slope: u64) -> u64
     requires { ShallowOk constant length slope }

@@ -2,11 +2,13 @@
 ghost use Rattle.std.specs.Prelude.{◌≡◌};
 ghost use Rattle.travel.specs.Rules.{Names, limit_of};
 
+use crate::{TR55, WINTR55};
+
 /// How far sheet flow may run, by its source.
 #[derive(Clone, Copy, Debug, PartialEq, Eq)]
 pub enum SheetRule {
-    Tr55 = 1,
-    WinTr55 = 2,
+    Tr55 = TR55 as isize,
+    WinTr55 = WINTR55 as isize,
 }
 
 /// A number that is no rule.
@@ -22,8 +24,8 @@ impl TryFrom<u64> for SheetRule {
 
     fn try_from(rule: u64) -> Result<Self, UnknownRule> {
         match rule {
-            1 => Ok(SheetRule::Tr55),
-            2 => Ok(SheetRule::WinTr55),
+            TR55 => Ok(SheetRule::Tr55),
+            WINTR55 => Ok(SheetRule::WinTr55),
             _ => Err(UnknownRule { rule }),
         }
     }

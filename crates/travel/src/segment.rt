@@ -2,7 +2,7 @@
 ghost use Rattle.std.specs.Prelude.{◌≡◌};
 ghost use Rattle.travel.specs.Segments.{Reads, within_of, placed_of, time_of, NumbersOk};
 
-use crate::{SEGMENT_WIDTH, manning, shallow_time};
+use crate::{CHANNEL, GIVEN, PAVED, SEGMENT_WIDTH, SHEET, UNPAVED, manning, shallow_time};
 
 // K of TR-55 appendix F, in ten-thousandths.
 const UNPAVED_FACTOR: u64 = 161345;
@@ -54,25 +54,25 @@ impl TryFrom<[u64; SEGMENT_WIDTH]> for Segment {
     fn try_from(numbers: [u64; SEGMENT_WIDTH]) -> Result<Self, UnknownKind> {
         let [kind, length, third, fourth, fifth] = numbers;
         match kind {
-            1 => Ok(Segment::Unpaved {
+            UNPAVED => Ok(Segment::Unpaved {
                 length,
                 slope: third,
             }),
-            2 => Ok(Segment::Paved {
+            PAVED => Ok(Segment::Paved {
                 length,
                 slope: third,
             }),
-            3 => Ok(Segment::Given {
+            GIVEN => Ok(Segment::Given {
                 length,
                 velocity: third,
             }),
-            4 => Ok(Segment::Sheet {
+            SHEET => Ok(Segment::Sheet {
                 length,
                 n: third,
                 rain: fourth,
                 slope: fifth,
             }),
-            5 => Ok(Segment::Channel {
+            CHANNEL => Ok(Segment::Channel {
                 length,
                 n: third,
                 radius: fourth,

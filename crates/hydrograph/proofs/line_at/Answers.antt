@@ -6,14 +6,14 @@ use Rattle.laws.proofs.Scans.{scan_go, scan_stop, scan_done}
 use Rattle.hydrograph.specs.InflowRows.{line_at}
 use Rattle.hydrograph.proofs.line_at.Goals as goal
 
-pub returns-then-t-knot_at : goal.returns-then-t-knot_at
+pub returns-then-t-time_at : goal.returns-then-t-time_at
 unfolding line_at
-returns-then-t-knot_at c =
-    scan_stop _ _ c.loop-i.invariant (omega arith) (le-ltb _ _ (rw c.knot_at.ensures at c.if-t-knot_at.true))
+returns-then-t-time_at c =
+    scan_stop _ _ c.loop-i.invariant (omega arith) (le-ltb _ _ (rw c.time_at.ensures at c.if-t-time_at.true))
 
 pub loop-i-preserved : goal.loop-i-preserved
 loop-i-preserved c =
-    scan_go _ _ c.loop-i.invariant (omega arith) (lt-ltb _ _ (rw c.knot_at.ensures at c.if-t-knot_at.false))
+    scan_go _ _ c.loop-i.invariant (omega arith) (lt-ltb _ _ (rw c.time_at.ensures at c.if-t-time_at.false))
 
 pub returns : goal.returns
 unfolding line_at
