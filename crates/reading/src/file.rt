@@ -1,4 +1,9 @@
 // A study's file.
+ghost use Rattle.std.specs.Prelude.{IfOk, IfErr};
+ghost use Rattle.arrayvec.specs.ArrayVec.{array_vec_len};
+ghost use Rattle.reading.specs.Bounds.{LaidOk};
+ghost use Rattle.reading.specs.Kept.{KeptUnlessFault};
+
 use crate::faults::FileError;
 use crate::study::Study;
 use arrayvec::ArrayVec;
@@ -13,17 +18,24 @@ const LONGEST: usize = 65536;
 const ASKED: usize = LONGEST + 1;
 
 /// Reads the study in the file that a name names. A name that is no UTF-8 text names none.
-pub fn load(rt: &impl Files, name: &[u8]) -> Result<Study, FileError> {
+pub fn load(rt: &impl Files, name: &[u8]) -> Result<Study, FileError>
+    ensures { IfOk result (λ s. LaidOk s.rows (array_vec_len s.rain) (array_vec_len s.records) (array_vec_len s.pond_rows)) }
+{
     let mut study = Study::new();
     load_into(rt, name, &mut study)?;
     Ok(study)
 }
 
 /// The same into a study that is lent, for a program that is to take little stack: a study has 25 KB, and through each hand that
-/// it goes by value as many again. What it holds after an error is no study's.
+/// it goes by value as many again. A fault in the text leaves it with what was read up to there, which is no study; a file whose
+/// text is not read at all leaves it as it was.
 // The file's bytes have a frame of their own, which is gone before the study is worked.
 #[inline(never)]
-pub fn load_into(rt: &impl Files, name: &[u8], study: &mut Study) -> Result<(), FileError> {
+pub fn load_into(rt: &impl Files, name: &[u8], study: &mut Study) -> Result<(), FileError>
+    ensures laid { LaidOk study.new.rows (array_vec_len study.new.rain) (array_vec_len study.new.records)
+        (array_vec_len study.new.pond_rows) }
+    ensures kept { IfErr result (λ e. KeptUnlessFault e study.old study.new) }
+{
     let Ok(path) = std::str::from_utf8(name) else {
         return Err(FileError::Unopened);
     };
@@ -33,7 +45,9 @@ pub fn load_into(rt: &impl Files, name: &[u8], study: &mut Study) -> Result<(), 
     }
 }
 
-fn read<F: Read + Drop>(file: F, study: &mut Study) -> Result<(), FileError> {
+fn read<F: Read + Drop>(file: F, study: &mut Study) -> Result<(), FileError>
+    ensures { IfErr result (λ e. KeptUnlessFault e study.old study.new) }
+{
     let mut bytes = ArrayVec::<u8, ASKED>::new();
     let mut asked = file.take(ASKED as u64);
     if io::copy(&mut asked, &mut bytes).is_err() {
@@ -42,5 +56,5 @@ fn read<F: Read + Drop>(file: F, study: &mut Study) -> Result<(), FileError> {
     if bytes.len() > LONGEST {
         return Err(FileError::TooLong);
     }
-    Ok(study.fill(&bytes)?)
+    study.fill(&bytes).map_err(FileError::Fault)
 }

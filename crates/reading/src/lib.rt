@@ -16,4 +16,4 @@ pub use faults::{Fault, FaultKind, FileError, Most};
 pub use file::{load, load_into};
 pub use items::Item;
 pub use stream::Stream;
-pub use study::{POND_ROOM, RAIN_ROOM, ROWS_ROOM, SUBAREAS_ROOM, Study};
+pub use study::{Laid, POND_ROOM, RAIN_ROOM, ROWS_ROOM, SUBAREAS_ROOM, Study};

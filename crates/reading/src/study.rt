@@ -1,7 +1,8 @@
 // A study as its file gives it.
-ghost use Rattle.std.specs.Prelude.{⊤, ◌≡◌, ◌≤◌, ◌*◌, []};
+ghost use Rattle.std.specs.Prelude.{⊤, ◌≡◌, ◌≤◌, ◌*◌, [], IfOk};
 ghost use Rattle.std.specs.List.{flat_map};
 ghost use Rattle.arrayvec.specs.ArrayVec.{array_vec_len};
+ghost use Rattle.subarea.specs.Records.{width};
 ghost use Rattle.travel.specs.TravelTime.{segment_width, most_segments};
 ghost use Rattle.pond.specs.PondRows.{row_width};
 ghost use Rattle.reading.specs.Bounds.{rain_room, subareas_room, pond_room, LaidOk};
@@ -43,6 +44,16 @@ pub struct Study {
     ghost laid: { LaidOk rows (array_vec_len rain) (array_vec_len records) (array_vec_len pond_rows) },
 }
 
+/// The numbers of a file that stand alone, and how many numbers are laid of each list.
+#[derive(Clone, Copy, Debug, PartialEq, Eq)]
+pub struct Laid {
+    pub setup: Setup,
+    pub rows: usize,
+    pub rain: usize,
+    pub subareas: usize,
+    pub pond: usize,
+}
+
 impl Study {
     /// A study of no rows, with nothing in its lists.
     pub fn new() -> Study
@@ -63,14 +74,19 @@ impl Study {
     }
 
     /// Reads the study that a text spells. The first fault ends the reading; what the engine refuses is none.
-    pub fn read(text: &[u8]) -> Result<Study, Fault> {
+    pub fn read(text: &[u8]) -> Result<Study, Fault>
+        ensures { IfOk result (λ s. LaidOk s.rows (array_vec_len s.rain) (array_vec_len s.records) (array_vec_len s.pond_rows)) }
+    {
         let mut study = Study::new();
         study.fill(text)?;
         Ok(study)
     }
 
     // Reads a study into this one, in the place of what it held.
-    pub(crate) fn fill(&mut self, text: &[u8]) -> Result<(), Fault> {
+    pub(crate) fn fill(&mut self, text: &[u8]) -> Result<(), Fault>
+        ensures { LaidOk self.new.rows (array_vec_len self.new.rain) (array_vec_len self.new.records)
+            (array_vec_len self.new.pond_rows) }
+    {
         let mut reader = Reader::new(text);
         self.rows = reader.count(Item::Rows, Most::Count(limits::MOST_ROWS), ROWS_ROOM)?;
         self.setup = setup(&mut reader)?;
@@ -78,6 +94,23 @@ impl Study {
         records(&mut reader, &mut self.records)?;
         pond_rows(&mut reader, &mut self.pond_rows)?;
         reader.finish()
+    }
+
+    /// What was laid of its file.
+    pub fn counts(&self) -> Laid
+        ensures alone { (result.setup ≡ self.now.setup) × (result.rows ≡ self.now.rows) }
+        ensures rain { result.rain ≡ array_vec_len self.now.rain }
+        ensures subareas { result.subareas ≡ width * array_vec_len self.now.records }
+        ensures pond { result.pond ≡ row_width * array_vec_len self.now.pond_rows }
+    {
+        let (setup, rows) = (self.setup, self.rows);
+        Laid {
+            setup,
+            rows,
+            rain: self.rain.len(),
+            subareas: subarea::WIDTH * self.records.len(),
+            pond: pond::ROW_WIDTH * self.pond_rows.len(),
+        }
     }
 
     /// The subareas' records, one behind the other.

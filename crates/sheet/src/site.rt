@@ -6,7 +6,7 @@ ghost use Rattle.subarea.specs.Records.{width};
 ghost use Rattle.sheet.specs.Text.{kind_text};
 
 use laws::limits;
-use reading::{Clock, Hundredths, Study, TenThousandths, Tenths, Thousandths};
+use reading::{Clock, Hundredths, Laid, Study, TenThousandths, Tenths, Thousandths};
 use std::{fmt, io};
 use subarea::{SEGMENT_COUNT, Setup};
 use travel::{Segment, SheetRule};
@@ -24,15 +24,20 @@ fn print_rule(out: &impl Print, rule: u64) -> io::Result<()> {
 
 // The rain is cumulative, so that its last entry is the total.
 fn print_heading(out: &impl Print, study: &Study) -> io::Result<()> {
-    let Setup { step, first, rule } = study.setup;
+    let Laid {
+        setup: Setup { step, first, rule },
+        rows,
+        rain,
+        ..
+    } = study.counts();
     let total = study.rain.last().copied().unwrap_or(0);
     println!(out; "DETENTION POND STUDY\n")?;
     println!(out; "Step          {} s = {} (h:mm:ss)", step, Clock(step))?;
     println!(out; "First row     {first}")?;
     print_rule(out, rule)?;
-    println!(out; "Rows          {}", study.rows)?;
+    println!(out; "Rows          {rows}")?;
     println!(out; "Rain total    {} in", Thousandths(total))?;
-    println!(out; "Rain entries  {}", study.rain.len())
+    println!(out; "Rain entries  {rain}")
 }
 
 // How many steps lie in five times the time to peak.
