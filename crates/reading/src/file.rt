@@ -14,9 +14,6 @@ use std::{fs, io};
 // The longest file that is read, in bytes.
 const LONGEST: usize = 65536;
 
-// One byte more is asked for, which tells a file that ends from one that is too long.
-const ASKED: usize = LONGEST + 1;
-
 /// Reads the study in the file that a name names. A name that is no UTF-8 text names none.
 pub fn load(rt: &impl Files, name: &[u8]) -> Result<Study, FileError>
     ensures { IfOk result (λ s. LaidOk s.rows (array_vec_len s.rain) (array_vec_len s.records) (array_vec_len s.pond_rows)) }
@@ -45,16 +42,18 @@ pub fn load_into(rt: &impl Files, name: &[u8], study: &mut Study) -> Result<(), 
     }
 }
 
-fn read<F: Read + Drop>(file: F, study: &mut Study) -> Result<(), FileError>
+// One byte more is asked for, which tells a file that ends from one that is too long.
+fn read<F: Read + Drop>(mut file: F, study: &mut Study) -> Result<(), FileError>
     ensures { IfErr result (λ e. KeptUnlessFault e study.old study.new) }
 {
-    let mut bytes = ArrayVec::<u8, ASKED>::new();
-    let mut asked = file.take(ASKED as u64);
-    if io::copy(&mut asked, &mut bytes).is_err() {
+    let mut bytes = ArrayVec::<u8, LONGEST>::new();
+    let mut first = file.by_ref().take(LONGEST as u64);
+    if io::copy(&mut first, &mut bytes).is_err() {
         return Err(FileError::Unread);
     }
-    if bytes.len() > LONGEST {
-        return Err(FileError::TooLong);
+    match file.read(&mut [0]) {
+        Ok(0) => study.fill(&bytes).map_err(FileError::Fault),
+        Ok(_) => Err(FileError::TooLong),
+        Err(_) => Err(FileError::Unread),
     }
-    study.fill(&bytes).map_err(FileError::Fault)
 }
