@@ -24,8 +24,8 @@ pub fn load(rt: &impl Files, name: &[u8]) -> Result<Study, FileError>
 }
 
 /// The same into a study that is lent, for a program that is to take little stack: a study has 25 KB, and through each hand that
-/// it goes by value as many again. A fault in the text leaves it with what was read up to there, which is no study; a file whose
-/// text is not read at all leaves it as it was.
+/// it goes by value as many again. After a fault of the text it has what was read up to there in the place of what it held, and
+/// the rest as it was, which is no study; after any other error it is as it was.
 // The file's bytes have a frame of their own, which is gone before the study is worked.
 #[inline(never)]
 pub fn load_into(rt: &impl Files, name: &[u8], study: &mut Study) -> Result<(), FileError>
@@ -42,16 +42,15 @@ pub fn load_into(rt: &impl Files, name: &[u8], study: &mut Study) -> Result<(), 
     }
 }
 
-// One byte more is asked for, which tells a file that ends from one that is too long.
+// One byte more is asked for, which tells a file that ends from one that cannot be read or is too long: also behind an end and
+// behind a read that failed, since a terminal may go on after the one and end after the other.
 fn read<F: Read + Drop>(mut file: F, study: &mut Study) -> Result<(), FileError>
     ensures { IfErr result (λ e. KeptUnlessFault e study.old study.new) }
 {
     let mut bytes = ArrayVec::<u8, LONGEST>::new();
-    let mut first = file.by_ref().take(LONGEST as u64);
-    if io::copy(&mut first, &mut bytes).is_err() {
-        return Err(FileError::Unread);
-    }
+    let _ = io::copy(&mut file.by_ref().take(LONGEST as u64), &mut bytes);
     match file.read(&mut [0]) {
+        // By `map_err`: `?` would go through thiserror's `From`, of which no proof knows what it gives.
         Ok(0) => study.fill(&bytes).map_err(FileError::Fault),
         Ok(_) => Err(FileError::TooLong),
         Err(_) => Err(FileError::Unread),

@@ -44,13 +44,15 @@ impl<P: Print> Print for Stream<P> {
 }
 
 // Hands on each piece of a text as it comes. The stream's own `print` would leave out what follows a piece that failed.
-#[derive(Drop)]
+#[derive(Clone, Copy)]
 struct Pieces<'a, P> {
     to: &'a P,
 }
 
 impl<'a, P: Print> fmt::Write for Pieces<'a, P> {
-    fn write_str(&mut self, piece: &str) -> fmt::Result {
+    fn write_str(&mut self, piece: &str) -> fmt::Result
+        ensures { IsOk result }
+    {
         let _ = self.to.write_all(piece.as_bytes());
         Ok(())
     }

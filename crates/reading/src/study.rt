@@ -1,8 +1,7 @@
 // A study as its file gives it.
-ghost use Rattle.std.specs.Prelude.{⊤, ◌≡◌, ◌≤◌, ◌*◌, [], IfOk};
+ghost use Rattle.std.specs.Prelude.{⊤, ◌≡◌, ◌≤◌, ◌*◌, [], IfOk, length};
 ghost use Rattle.std.specs.List.{flat_map};
 ghost use Rattle.arrayvec.specs.ArrayVec.{array_vec_len};
-ghost use Rattle.subarea.specs.Records.{width};
 ghost use Rattle.travel.specs.TravelTime.{segment_width, most_segments};
 ghost use Rattle.pond.specs.PondRows.{row_width};
 ghost use Rattle.reading.specs.Bounds.{rain_room, subareas_room, pond_room, LaidOk};
@@ -44,7 +43,7 @@ pub struct Study {
     ghost laid: { LaidOk rows (array_vec_len rain) (array_vec_len records) (array_vec_len pond_rows) },
 }
 
-/// The numbers of a file that stand alone, and how many numbers are laid of each list.
+/// A study's numbers that stand alone, and how many numbers are laid of each list.
 #[derive(Clone, Copy, Debug, PartialEq, Eq)]
 pub struct Laid {
     pub setup: Setup,
@@ -96,20 +95,20 @@ impl Study {
         reader.finish()
     }
 
-    /// What was laid of its file.
+    /// Its numbers that stand alone, and how many numbers each list has.
     pub fn counts(&self) -> Laid
         ensures alone { (result.setup ≡ self.now.setup) × (result.rows ≡ self.now.rows) }
         ensures rain { result.rain ≡ array_vec_len self.now.rain }
-        ensures subareas { result.subareas ≡ width * array_vec_len self.now.records }
-        ensures pond { result.pond ≡ row_width * array_vec_len self.now.pond_rows }
+        ensures subareas { result.subareas ≡ length (flat_map (λ own. own) self.now.records.items) }
+        ensures pond { result.pond ≡ length (flat_map (λ row. row) self.now.pond_rows.items) }
     {
         let (setup, rows) = (self.setup, self.rows);
         Laid {
             setup,
             rows,
             rain: self.rain.len(),
-            subareas: subarea::WIDTH * self.records.len(),
-            pond: pond::ROW_WIDTH * self.pond_rows.len(),
+            subareas: self.subareas().len(),
+            pond: self.pond().len(),
         }
     }
 

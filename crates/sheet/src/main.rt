@@ -77,6 +77,8 @@ fn lent(out: &impl Print, err: &impl Print, study: &Study) -> io::Result<()> {
     )
 }
 
+// The study has a frame of its own, which does not stand where only the usage is told.
+#[inline(never)]
 fn run(rt: &impl Files, out: &impl Print, err: &impl Print, name: &[u8]) -> io::Result<()> {
     let mut study = Study::new();
     match reading::load_into(rt, name, &mut study) {

@@ -6,7 +6,7 @@ ghost use Rattle.subarea.specs.Records.{width};
 ghost use Rattle.sheet.specs.Text.{kind_text};
 
 use laws::limits;
-use reading::{Clock, Hundredths, Laid, Study, TenThousandths, Tenths, Thousandths};
+use reading::{Clock, Hundredths, Study, TenThousandths, Tenths, Thousandths};
 use std::{fmt, io};
 use subarea::{SEGMENT_COUNT, Setup};
 use travel::{Segment, SheetRule};
@@ -24,20 +24,16 @@ fn print_rule(out: &impl Print, rule: u64) -> io::Result<()> {
 
 // The rain is cumulative, so that its last entry is the total.
 fn print_heading(out: &impl Print, study: &Study) -> io::Result<()> {
-    let Laid {
-        setup: Setup { step, first, rule },
-        rows,
-        rain,
-        ..
-    } = study.counts();
+    let laid = study.counts();
+    let Setup { step, first, rule } = laid.setup;
     let total = study.rain.last().copied().unwrap_or(0);
     println!(out; "DETENTION POND STUDY\n")?;
     println!(out; "Step          {} s = {} (h:mm:ss)", step, Clock(step))?;
     println!(out; "First row     {first}")?;
     print_rule(out, rule)?;
-    println!(out; "Rows          {rows}")?;
+    println!(out; "Rows          {}", laid.rows)?;
     println!(out; "Rain total    {} in", Thousandths(total))?;
-    println!(out; "Rain entries  {rain}")
+    println!(out; "Rain entries  {}", laid.rain)
 }
 
 // How many steps lie in five times the time to peak.

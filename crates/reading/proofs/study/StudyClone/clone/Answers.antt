@@ -1,5 +1,5 @@
 -- The clone of a list of numbers, or of lists of numbers, is that list.
-use Rattle.std.proofs.Common.{◌≡◌, refl}
+use Rattle.std.proofs.Common.{refl}
 use Rattle.std.specs.List.{each_same}
 use Rattle.std.proofs.lemmas.List.Elements.{same_from_all_zip}
 use Rattle.reading.proofs.study.StudyClone.clone.Goals as goal
