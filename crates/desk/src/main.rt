@@ -91,7 +91,13 @@ fn print_fault(err: &impl Print, name: &[u8], error: FileError) -> io::Result<()
 // is none that differs. Nothing can be told where a stream takes no more, and the other studies are worked all the same.
 fn differs(rt: &impl Files, out: &impl Print, err: &impl Print, name: &[u8]) -> bool {
     let mut study = Study::new();
-    match reading::load_into(rt, name, &mut study) {
+    // The file stays open until its study is told, or what is wrong with it.
+    let mut file = reading::open(rt, name);
+    let read = match &mut file {
+        Ok(file) => reading::load_into(file, &mut study),
+        Err(error) => Err(*error),
+    };
+    match read {
         Ok(()) => {
             let said = compared(&study);
             let _ = verdicts::print(out, name, &said);

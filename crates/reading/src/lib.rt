@@ -13,7 +13,7 @@ mod words;
 
 pub use columns::{Clock, Hundredths, TenThousandths, Tenths, Thousandths};
 pub use faults::{Fault, FaultKind, FileError, Most};
-pub use file::{load, load_into};
+pub use file::{load, load_into, open};
 pub use items::Item;
 pub use stream::Stream;
 pub use study::{Laid, POND_ROOM, RAIN_ROOM, ROWS_ROOM, SUBAREAS_ROOM, Study};

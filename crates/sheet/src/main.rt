@@ -81,7 +81,13 @@ fn lent(out: &impl Print, err: &impl Print, study: &Study) -> io::Result<()> {
 #[inline(never)]
 fn run(rt: &impl Files, out: &impl Print, err: &impl Print, name: &[u8]) -> io::Result<()> {
     let mut study = Study::new();
-    match reading::load_into(rt, name, &mut study) {
+    // The file stays open until its study is told, or what is wrong with it.
+    let mut file = reading::open(rt, name);
+    let read = match &mut file {
+        Ok(file) => reading::load_into(file, &mut study),
+        Err(error) => Err(*error),
+    };
+    match read {
         Ok(()) => lent(out, err, &study),
         Err(error) => {
             err.write_all(name)?;
